@@ -1,0 +1,6 @@
+pub mod Cuts
+pub mod FirstWords
+pub mod Numerals
+pub mod Parted
+pub mod Runs
+pub mod Strings

@@ -1,0 +1,5 @@
+pub mod Cutting
+pub mod Finding
+pub mod Paths
+pub mod Ranges
+pub mod Reading

@@ -1,0 +1,2 @@
+pub mod LastPieces
+pub mod Paths
