@@ -1,8 +1,8 @@
 -- A target has one answer. Assumes nothing.
-use mathlib.Core.Path.{_≡_, refl, sym, _∙_, ap}
+use mathlib.Core.Path.{_≡_, sym, _∙_, ap}
 use mathlib.Core.Bool.{Bool, true, false}
 use mathlib.Core.List.{List}
-use mathlib.Core.Logic.{_⊎_, inl, inr}
+use mathlib.Core.Logic.{inl, inr}
 use Prim.Native.Nat.{ℕ}
 use native.Mathlib.Omega.{arith}
 use Rattle.std.specs.declared.option.Option.{Option}
@@ -11,9 +11,9 @@ use Rattle.ld_so_cache.specs.Cache.{value-place}
 use Rattle.ld_so_cache.specs.Faults.{cache-refusal}
 use Rattle.ld_so_cache.proofs.Once.{refused-good, one-fault, one-entry, one-value, found-none}
 use Rattle.proc_map.specs.Maps.{map-lines}
-use Rattle.proc_map.specs.Search.{Found, path-at, nowhere, refused}
+use Rattle.proc_map.specs.Search.{Found}
 use Rattle.proc_map.proofs.Finding.{looks-up-once}
-use Rattle.attach_target.specs.Targets.{Answer, in-maps, in-cache, turned-away, CacheSays, Listed, MapsSay, Resolves, ResolvesOnce, Searches, Tells}
+use Rattle.attach_target.specs.Targets.{Answer, in-maps, in-cache, turned-away, CacheSays, Listed, MapsSay, ResolvesOnce, Searches, Tells}
 
 listed-once : (target cache : List ℕ) (a b : Answer) → Listed target cache a → Listed target cache b → a ≡ b
 listed-once target cache a b (inl h) (inl k) =

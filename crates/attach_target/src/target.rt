@@ -1,5 +1,4 @@
 // The look-up of a target: as given, in a process's maps, in the loader's cache.
-ghost use mathlib.Core.Path.{_≡_};
 ghost use denote.Ref.{now as behind};
 ghost use Rattle.std.specs.Options.{Cases as BySome, mapped};
 ghost use Rattle.std.specs.Orderings.{Decides};
@@ -55,7 +54,7 @@ pub fn resolve_attach_target<'a>(
     look_up(target, scope, maps, cache)
 }
 
-// The look-up itself.
+// The look-up itself, step by step.
 fn look_up<'a>(
     target: &'a [u8],
     scope: UProbeScope,

@@ -1,15 +1,14 @@
 -- The first word of a text, by how much white space and how much of a word it starts with. Assumes nothing.
 use mathlib.Core.Path.{_≡_, refl, sym, _∙_, ap, subst}
-use mathlib.Core.Bool.{true, false, not}
-use mathlib.Core.List.{List, [], _∷_, _++_}
-use Prim.Native.Nat.{ℕ, _+_, _-_, _≤_, _<_}
+use mathlib.Core.List.{List, _++_}
+use Prim.Native.Nat.{ℕ, _+_, _-_, _<_}
 use native.Mathlib.Omega.{arith}
 use lib.ListN.{length, getD, take, drop}
 use Rattle.std.specs.shelf.Lists.{leading}
 use Rattle.std.proofs.shelf.Lists.{append-assoc, length-append, length-take-le, length-drop, getD-append-left, getD-take, getD-drop, take-append-drop, take-at, drop-at}
 use Rattle.std.proofs.shelf.Sums.{leading-le-length}
-use Rattle.std.proofs.shelf.Tests.{not-from-true, not-from-false, not-true, not-false}
-use Rattle.bytes.specs.Words.{white, dark, Only, FirstWord}
+use Rattle.std.proofs.shelf.Tests.{not-from-true, not-true, not-false}
+use Rattle.bytes.specs.Words.{white, dark, FirstWord}
 use Rattle.bytes.proofs.Runs.{leading-yes, leading-no, leading-front}
 
 -- the text from its first word on

@@ -1,13 +1,11 @@
 -- Which bytes stand in a written number. Assumes nothing.
-use mathlib.Core.Path.{_≡_, refl, sym, _∙_, ap, subst}
-use mathlib.Core.Bool.{cond}
+use mathlib.Core.Path.{_≡_, sym, _∙_, subst}
 use mathlib.Core.List.{List, [], _∷_}
 use mathlib.Core.Logic.{_⊎_, inl, inr, ⊎-elim}
-use Prim.Native.Nat.{ℕ, zero, suc, _+_, _-_, _≤_, _<_}
+use Prim.Native.Nat.{ℕ, zero, suc, _-_, _≤_, _<_}
 use native.Mathlib.Omega.{arith}
-use lib.Dec.{eqb}
-use lib.ListN.{length, getD, drop}
-use Rattle.std.specs.Reads.{Digits, Numeral, afterPlus}
+use lib.ListN.{length, getD}
+use Rattle.std.specs.Reads.{Digits, afterPlus}
 use Rattle.std.specs.Text.{Ascii, digitValue}
 use Rattle.std.proofs.shelf.Ascii.{ascii-from-reads}
 use Rattle.std.proofs.shelf.Numerals.{afterPlus-none, afterPlus-plus}

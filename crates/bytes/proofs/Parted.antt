@@ -1,9 +1,9 @@
 -- Lists parted at the first place of a byte, and parts of parts. Assumes nothing.
 use mathlib.Core.Path.{_≡_, refl, sym, _∙_, ap, subst}
 use mathlib.Core.List.{List, [], _∷_, _++_}
-use Prim.Native.Nat.{ℕ, _+_, _-_, _≤_, _<_}
+use Prim.Native.Nat.{ℕ, _+_, _-_, _≤_}
 use native.Mathlib.Omega.{arith}
-use lib.ListN.{length, getD, take, drop}
+use lib.ListN.{length, take, drop}
 use Rattle.std.proofs.shelf.Lists.{append-nil, length-append, length-drop, length-take-le, getD-take, take-append-drop, take-at, take-take, drop-at, drop-drop, drop-more, drop-take}
 use Rattle.bytes.specs.Cut.{cut}
 use Rattle.bytes.specs.Parts.{PartOf}

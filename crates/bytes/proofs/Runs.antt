@@ -1,6 +1,6 @@
 -- The longest front of a list that passes a test, by places. Assumes nothing.
 use mathlib.Core.Path.{_≡_, refl, sym, _∙_, ap}
-use mathlib.Core.Bool.{Bool, true, false, cond}
+use mathlib.Core.Bool.{Bool, true, false}
 use mathlib.Core.List.{List, [], _∷_, _++_, reverse}
 use mathlib.Core.Logic.{⊎-elim}
 use Prim.Native.Nat.{ℕ, zero, suc, _+_, _-_, _≤_, _<_}
@@ -8,7 +8,7 @@ use native.Mathlib.Omega.{arith}
 use lib.ListN.{length, getD}
 use Rattle.std.specs.shelf.Lists.{leading, ending}
 use Rattle.std.proofs.shelf.Lists.{length-append, length-reverse, getD-append-left, getD-append-right, getD-reverse}
-use Rattle.std.proofs.shelf.Tests.{cases-bool, cond-true, cond-false, both-ways}
+use Rattle.std.proofs.shelf.Tests.{cases-bool, cond-true, cond-false}
 
 module _ {X : Type 0} (p : X → Bool) where
   -- each element of the run passes

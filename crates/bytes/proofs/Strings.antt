@@ -1,13 +1,13 @@
 -- The zero-terminated string at a place, by the first zero byte from there on. Assumes nothing.
 use mathlib.Core.Path.{_≡_, refl, sym, _∙_, ap}
-use mathlib.Core.List.{List, [], _∷_, _++_}
+use mathlib.Core.List.{List, _∷_}
 use mathlib.Core.Logic.{⊎-elim}
-use Prim.Native.Nat.{ℕ, _+_, _-_, _≤_, _<_}
+use Prim.Native.Nat.{ℕ, _+_, _-_, _<_}
 use native.Mathlib.Omega.{arith}
 use lib.ListN.{length, getD, take, drop}
 use Rattle.std.proofs.shelf.Lists.{length-append, length-drop, getD-append-left, getD-at, take-at}
 use Rattle.std.proofs.shelf.Tests.{cases-order}
-use Rattle.bytes.specs.Places.{Free, Lacks, First}
+use Rattle.bytes.specs.Places.{Free, First}
 use Rattle.bytes.specs.Fields.{StringAt}
 use Rattle.bytes.specs.Parts.{PartOf}
 use Rattle.bytes.proofs.Parted.{parted, free-front}

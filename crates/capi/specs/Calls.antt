@@ -1,7 +1,7 @@
 -- What the C-callable functions answer and write, over the definitions of the library. Assumes nothing.
 use mathlib.Core.Path.{_≡_}
 use mathlib.Core.Bool.{cond}
-use mathlib.Core.List.{List, [], _∷_}
+use mathlib.Core.List.{List}
 use mathlib.Core.Logic.{_⊎_}
 use Prim.Native.Nat.{ℕ}
 use lib.Dec.{eqb}
@@ -36,13 +36,13 @@ found-part (Given p) = p
 found-part (Mapped p) = p
 found-part (Cached p) = p
 
--- 0 and the number of entries, or the refusal's number and the entry's number
-abbrev pub CacheTold : List ℕ → ℕ → ℕ → ℕ → Type 0
-CacheTold cache r old new =
-    ((r ≡ 0) × Good cache × (new ≡ count cache))
-    ⊎ ((f : CacheFault) × Refuses cache f × (r ≡ cache-refusal f .number) × (new ≡ carried (cache-refusal f) 0 old))
+-- 0 and the number of entries, or the refusal's number and the entry's number; the other place is as it was
+abbrev pub CacheTold : List ℕ → ℕ → ℕ → ℕ → ℕ → ℕ → Type 0
+CacheTold cache r old-entries entries old-entry entry =
+    ((r ≡ 0) × Good cache × (entries ≡ count cache) × (entry ≡ old-entry))
+    ⊎ ((f : CacheFault) × Refuses cache f × (r ≡ cache-refusal f .number) × (entries ≡ old-entries) × (entry ≡ carried (cache-refusal f) 0 old-entry))
 
--- the source's number with the path's place and length, under 0; or the refusal's number and its values
+-- 0 with the source's number, the path's place and its length; or the refusal's number, and these three as they were
 abbrev pub Told : Answer → ℕ → ℕ → ℕ → ℕ → ℕ → ℕ → ℕ → Type 0
 Told (as-given p bs) r old-source source old-place place old-len len =
     (r ≡ 0) × (source ≡ 1) × (place ≡ p) × (len ≡ length bs)
@@ -51,4 +51,12 @@ Told (in-maps p bs) r old-source source old-place place old-len len =
 Told (in-cache p bs) r old-source source old-place place old-len len =
     (r ≡ 0) × (source ≡ 3) × (place ≡ p) × (len ≡ length bs)
 Told (turned-away e) r old-source source old-place place old-len len =
-    (r ≡ e .number) × (source ≡ old-source) × (place ≡ carried e 0 old-place) × (len ≡ carried e 1 old-len)
+    (r ≡ e .number) × (source ≡ old-source) × (place ≡ old-place) × (len ≡ old-len)
+
+-- the two values that a refusal carries; with an answer, and where it carries fewer, they are as they were
+abbrev pub Carried : Answer → ℕ → ℕ → ℕ → ℕ → Type 0
+Carried (as-given p bs) old-first first old-second second = (first ≡ old-first) × (second ≡ old-second)
+Carried (in-maps p bs) old-first first old-second second = (first ≡ old-first) × (second ≡ old-second)
+Carried (in-cache p bs) old-first first old-second second = (first ≡ old-first) × (second ≡ old-second)
+Carried (turned-away e) old-first first old-second second =
+    (first ≡ carried e 0 old-first) × (second ≡ carried e 1 old-second)

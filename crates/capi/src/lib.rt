@@ -10,7 +10,7 @@ ghost use Rattle.attach_target.specs.Faults.{target-refusal};
 ghost use Rattle.attach_target.specs.Scopes.{uses-maps};
 ghost use Rattle.attach_target.specs.Targets.{Answer, Resolves};
 ghost use Rattle.ld_so_cache.specs.Faults.{cache-refusal};
-ghost use Rattle.capi.specs.Calls.{CacheTold, Told, carried, found-part, given-bytes, source-number};
+ghost use Rattle.capi.specs.Calls.{CacheTold, Carried, Told, carried, found-part, given-bytes, source-number};
 use attach_target::fault::TargetFault;
 use attach_target::scope::UProbeScope;
 use attach_target::target::Target;
@@ -46,19 +46,20 @@ pub extern "C" fn uprobe_offset(
     }
 }
 
-/// Checks a loader's cache. Answers 0 and writes to `detail` how many entries it has; or answers 4 or 6
-/// and writes the entry's number, from 1, or 0 before the entries; or answers 5 and leaves `detail` as it was.
+/// Checks a loader's cache. Answers 0 and writes to `entries` how many there are. Answers 4 or 6 and
+/// writes to `entry` the number of the entry at fault, from 1, or 0 before the entries; or answers 5.
+/// Nothing else is written.
 #[unsafe(no_mangle)]
-pub extern "C" fn uprobe_cache_check(cache: &[u8], detail: &mut u32) -> u32
-    ensures told { λ r. ⌜ CacheTold (now (cache .entry)) r (now (detail .entry)) (now (detail .exit)) ⌝ }
+pub extern "C" fn uprobe_cache_check(cache: &[u8], entries: &mut u32, entry: &mut u32) -> u32
+    ensures told { λ r. ⌜ CacheTold (now (cache .entry)) r (now (entries .entry)) (now (entries .exit)) (now (entry .entry)) (now (entry .exit)) ⌝ }
 {
     match LdSoCache::parse(cache) {
         Ok(checked) => {
-            *detail = checked.len();
+            *entries = checked.len();
             0
         }
         Err(fault) => {
-            *detail = entry_of(fault, *detail);
+            *entry = entry_of(fault, *entry);
             fault.refusal()
         }
     }
@@ -67,8 +68,8 @@ pub extern "C" fn uprobe_cache_check(cache: &[u8], detail: &mut u32) -> u32
 /// Finds the file that a target stands for. `process` is 0 for all processes, else the number of the one
 /// whose maps are passed; maps or cache that could not be read are passed with a 0 before them.
 /// Answers 0 and writes the source, 1 for given, 2 for mapped, 3 for cached, with the path's place there and
-/// its length; or answers the refusal's number, leaves `source` as it was, and writes what the refusal
-/// carries: of 3 the line's place and length, of 4 and 6 the entry's number to `place`.
+/// its length. Or answers the refusal's number and writes what it carries: of 3 the line's place to `first`
+/// and its length to `second`, of 4 and 6 the entry's number to `first`. Nothing else is written.
 #[unsafe(no_mangle)]
 pub extern "C" fn uprobe_target<'a>(
     target: &'a [u8],
@@ -80,8 +81,10 @@ pub extern "C" fn uprobe_target<'a>(
     source: &mut u32,
     place: &mut u64,
     len: &mut u64,
+    first: &mut u64,
+    second: &mut u64,
 ) -> u32
-    ensures told { λ r. ⌜ ((a : Answer) × Resolves (now (target .entry)) (not (eqb process 0)) (given-bytes «maps_readable» (now (maps .entry))) (given-bytes «cache_readable» (now (cache .entry))) a × Told a r (now (source .entry)) (now (source .exit)) (now (place .entry)) (now (place .exit)) (now (len .entry)) (now (len .exit))) ⌝ }
+    ensures told { λ r. ⌜ ((a : Answer) × Resolves (now (target .entry)) (not (eqb process 0)) (given-bytes «maps_readable» (now (maps .entry))) (given-bytes «cache_readable» (now (cache .entry))) a × Told a r (now (source .entry)) (now (source .exit)) (now (place .entry)) (now (place .exit)) (now (len .entry)) (now (len .exit)) × Carried a (now (first .entry)) (now (first .exit)) (now (second .entry)) (now (second .exit))) ⌝ }
 {
     let maps = given(maps_readable, maps);
     let cache = given(cache_readable, cache);
@@ -94,8 +97,8 @@ pub extern "C" fn uprobe_target<'a>(
             0
         }
         Err(fault) => {
-            *place = first_value(fault, *place);
-            *len = second_value(fault, *len);
+            *first = first_value(fault, *first);
+            *second = second_value(fault, *second);
             fault.refusal()
         }
     }

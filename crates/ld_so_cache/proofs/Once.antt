@@ -2,9 +2,8 @@
 use mathlib.Core.Path.{_≡_, refl, sym, _∙_, ap, subst}
 use mathlib.Core.List.{List}
 use mathlib.Core.Logic.{_⊎_, inl, inr, ⊎-elim}
-use Prim.Native.Nat.{ℕ, _≤_, _<_}
+use Prim.Native.Nat.{ℕ}
 use native.Mathlib.Omega.{arith}
-use lib.ListN.{length}
 use Rattle.std.proofs.shelf.Tests.{cases-order}
 use Rattle.bytes.proofs.Strings.{string-once}
 use Rattle.ld_so_cache.specs.declared.fault.CacheFault.{CacheFault}
@@ -12,7 +11,7 @@ use Rattle.ld_so_cache.specs.declared.fault.CacheFault.the-variants.{Truncated
 use Rattle.ld_so_cache.specs.Cache.{Header, Room, Whole, Good, Finds, FindsNone}
 use Rattle.ld_so_cache.specs.Faults.{NoCount, Reaches, Refuses}
 
--- the bytes end in the header, or do not start right, or entry n is the first that is not whole
+-- bytes that end in the header have none
 no-header : {bytes : List ℕ} → NoCount bytes → Header bytes → ⊥
 no-header (inl short) h = let c = h .counted in omega arith
 no-header (inr cut) h = let c = h .counted in omega (arith, cut .1)
@@ -21,13 +20,14 @@ module _ {bytes : List ℕ} where
   no-room : {n : ℕ} → (Room bytes n → ⊥) → Whole bytes n → ⊥
   no-room none w = none (w .2 .room)
 
+  -- of the entries that are not whole one is the first
   first-bad : {m n : ℕ} → Reaches bytes m → (Whole bytes m → ⊥) → Reaches bytes n → (Whole bytes n → ⊥) → m ≡ n
   first-bad {m} {n} h bad k worse =
       ⊎-elim (λ e. e)
       (⊎-elim (λ less. absurd (bad (k .before m (h .some) less))) (λ more. absurd (worse (h .before n (k .some) more))))
       (cases-order m n)
 
-  -- a fault is in the header, or in the first entry that is not whole
+  -- a cache with an entry that is not whole cannot be read
   at-entry : {n : ℕ} → Reaches bytes n → (Whole bytes n → ⊥) → Good bytes → ⊥
   at-entry {n} h bad good = bad (good .entries n (h .some) (h .within))
 

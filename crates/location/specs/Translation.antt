@@ -1,6 +1,6 @@
 -- From an address in memory to a place in the file, by the ELF specification's sh_addr and sh_offset. Assumes nothing.
 use mathlib.Core.Bool.{cond}
-use mathlib.Core.List.{List, [], _∷_}
+use mathlib.Core.List.{[], _∷_}
 use Prim.Native.Nat.{ℕ, _+_, _-_, _^_}
 use lib.Dec.{ltb}
 use Rattle.std.specs.declared.result.Result.{Result}

@@ -1,22 +1,19 @@
 -- The path behind a line's words, by the white space around it. Assumes nothing.
 use mathlib.Core.Path.{_≡_, refl, sym, _∙_, ap, subst}
-use mathlib.Core.Bool.{true, false}
-use mathlib.Core.List.{List, [], _∷_, _++_}
+use mathlib.Core.Bool.{false}
+use mathlib.Core.List.{List, _++_}
 use mathlib.Core.Logic.{⊎-elim}
-use Prim.Native.Nat.{ℕ, suc, _+_, _-_, _≤_, _<_}
+use Prim.Native.Nat.{ℕ, _+_, _-_, _≤_, _<_}
 use native.Mathlib.Omega.{arith}
 use lib.ListN.{length, getD, take, drop}
 use Rattle.std.specs.shelf.Lists.{leading, ending}
 use Rattle.std.proofs.shelf.Lists.{length-append, length-drop, length-take-le, getD-append-left, getD-append-right, getD-take, getD-drop, take-append-drop, take-at, drop-at}
-use Rattle.std.proofs.shelf.Sums.{leading-le-length, ending-le-length}
+use Rattle.std.proofs.shelf.Sums.{leading-le-length}
 use Rattle.std.proofs.shelf.Tests.{cases-lt, both-ways, not-true, not-from-false}
 use Rattle.bytes.specs.Words.{white, dark, Only}
+use Rattle.bytes.proofs.FirstWords.{onward}
 use Rattle.bytes.proofs.Runs.{leading-yes, leading-no, leading-front, ending-yes, ending-no, ending-is}
 use Rattle.proc_map.specs.Line.{PathIn}
-
--- the text from its first byte that is not white
-abbrev pub onward : List ℕ → List ℕ
-onward rest = drop (leading white rest) rest
 
 -- how long it is without the white space at its end
 abbrev pub path-size : List ℕ → ℕ

@@ -1,9 +1,9 @@
 -- A line's words, and that a line says one thing at most. Assumes nothing.
 use mathlib.Core.Path.{_≡_, refl, sym, _∙_, ap, subst}
 use mathlib.Core.List.{List, [], _∷_, _++_}
-use Prim.Native.Nat.{ℕ, suc, _+_, _-_, _≤_, _<_}
+use Prim.Native.Nat.{ℕ, _+_, _-_, _≤_}
 use native.Mathlib.Omega.{arith}
-use lib.ListN.{length, getD, take, drop}
+use lib.ListN.{length}
 use Rattle.std.specs.declared.option.Option.{Option}
 use Rattle.std.specs.declared.option.Option.the-variants.{Some, None}
 use Rattle.std.proofs.shelf.Lists.{append-assoc, length-append}
@@ -11,7 +11,7 @@ use Rattle.bytes.specs.Numbers.{Writes}
 use Rattle.bytes.specs.Words.{FirstWord}
 use Rattle.bytes.proofs.FirstWords.{one-word}
 use Rattle.bytes.proofs.Numerals.{writes-once}
-use Rattle.proc_map.specs.Line.{Mapping, Words, no-more, one-more, Range, PathIn, Ends, Reads, ReadsOnce}
+use Rattle.proc_map.specs.Line.{Mapping, Words, no-more, one-more, Range, Ends, Reads, ReadsOnce}
 use Rattle.proc_map.proofs.Paths.{gap-is, path-is, not-all-blank}
 use Rattle.proc_map.proofs.Ranges.{same-range}
 

@@ -1,8 +1,6 @@
 // The lines of maps one after another: maps are trimmed and cut at line feeds.
 ghost use mathlib.Core.Path.{_≡_};
 ghost use mathlib.Core.List.{_∷_, []};
-ghost use Prim.Native.Nat.{_+_, _^_, _<_};
-ghost use lib.ListN.{length};
 ghost use Rattle.std.specs.Options.{Cases};
 ghost use Rattle.proc_map.specs.Cursor.{line-of, lines-left};
 ghost use Rattle.proc_map.specs.Maps.{map-lines, LinesOf};

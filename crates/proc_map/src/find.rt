@@ -1,15 +1,9 @@
 // A library's path in maps, by the library's name.
-ghost use mathlib.Core.Path.{_≡_};
 ghost use mathlib.Core.List.{List};
-ghost use Prim.Native.Nat.{ℕ, _+_, _^_, _<_};
-ghost use denote.Ref.{now as behind};
-ghost use lib.ListN.{length};
+ghost use Prim.Native.Nat.{ℕ};
 ghost use Rattle.std.specs.Options.{Cases as BySome};
-ghost use Rattle.std.specs.Orderings.{Decides};
-ghost use Rattle.std.specs.Results.{Cases};
 ghost use Rattle.std.specs.Vec.{made};
 ghost use Rattle.bytes.specs.Parts.{PartOf};
-ghost use Rattle.proc_map.specs.Cursor.{line-of};
 ghost use Rattle.proc_map.specs.Entry.{mapping};
 ghost use Rattle.proc_map.specs.Maps.{map-lines};
 ghost use Rattle.proc_map.specs.Search.{found, LooksUp, LooksUpOnce, NamesPath};

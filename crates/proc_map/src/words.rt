@@ -1,8 +1,6 @@
 // The pieces of a maps line: its five words, the address's two numbers, and the path behind them.
-ghost use Prim.Native.Nat.{ℕ, _+_, _≤_};
+ghost use Prim.Native.Nat.{ℕ};
 ghost use mathlib.Core.List.{List, _∷_, []};
-ghost use mathlib.Core.Path.{_≡_};
-ghost use lib.ListN.{length};
 ghost use Rattle.std.specs.Options.{Cases};
 ghost use Rattle.bytes.specs.Words.{white, Only};
 ghost use Rattle.proc_map.specs.Line.{Words, Range, PathIn};

@@ -1,27 +1,25 @@
 -- The worked examples hold. Assumes nothing.
-use mathlib.Core.Path.{_≡_, refl, sym, _∙_, ap, subst}
-use mathlib.Core.Bool.{Bool, true, false, not, _&&_}
+use mathlib.Core.Path.{_≡_, refl, _∙_, ap, subst}
+use mathlib.Core.Bool.{Bool, true, not, _&&_}
 use mathlib.Core.List.{List, [], _∷_, _++_}
-use mathlib.Core.Logic.{_⊎_, inl, inr}
+use mathlib.Core.Logic.{inl, inr}
 use Prim.Native.Nat.{ℕ, zero, suc, _+_, _-_, _≤_, _<_}
 use native.Mathlib.Omega.{arith}
 use lib.Chars.{codes}
 use lib.Dec.{eqb, lit<, lit≤}
 use lib.ListN.{length, getD, drop}
-use Rattle.std.specs.declared.option.Option.the-variants.{Some, None}
+use Rattle.std.specs.declared.option.Option.the-variants.{Some}
 use Rattle.std.proofs.shelf.Fronts.{end-rest}
 use Rattle.std.proofs.shelf.Tests.{and-parts, eqb-false, not-true}
 use Rattle.bytes.specs.Cut.{cut}
-use Rattle.bytes.specs.Fields.{StringAt}
-use Rattle.bytes.specs.Numbers.{Writes}
 use Rattle.bytes.specs.Places.{Free, First}
 use Rattle.bytes.proofs.FirstWords.{word-there}
 use Rattle.bytes.proofs.Numerals.{writes-no-minus}
 use Rattle.library_name.specs.Names.{dot-so, Stem, NamesFile}
-use Rattle.ld_so_cache.specs.Cache.{count, Entry, Whole, Good, Finds}
-use Rattle.proc_map.specs.Line.{Mapping, Words, no-more, one-more, Range, Reads, Unreadable}
+use Rattle.ld_so_cache.specs.Cache.{Entry, Whole, Good}
+use Rattle.proc_map.specs.Line.{Mapping, Words, no-more, one-more, Reads, Unreadable}
 use Rattle.proc_map.specs.Maps.{map-lines}
-use Rattle.proc_map.specs.Search.{path-at, NamesPath, LooksUp}
+use Rattle.proc_map.specs.Search.{path-at, LooksUp}
 use Rattle.proc_map.proofs.Paths.{path-there}
 use Rattle.proc_map.proofs.Ranges.{range-stops}
 use Rattle.proc_map.proofs.Reading.{parts}

@@ -1,4 +1,3 @@
-use mathlib.Core.Path.{sym, subst}
 use native.Mathlib.Nat.{sub-zero}
 use native.Mathlib.Omega.{arith}
 use Rattle.std.proofs.shelf.Lists.{take-rest}

@@ -1,4 +1,3 @@
-use mathlib.Core.Path.{sym}
 use native.Mathlib.Omega.{arith}
 use Rattle.bytes.specs.Words.{white}
 use Rattle.bytes.proofs.Runs.{leading-is}

@@ -6,7 +6,7 @@ use Rattle.std.specs.shelf.Lists.{All}
 use Rattle.bytes.specs.Parts.{PartOf}
 use Rattle.bytes.proofs.Parted.{part-of-part}
 use Rattle.proc_map.specs.Cursor.{line-of, lines-left}
-use Rattle.proc_map.specs.Search.{Found, path-at, LooksUp}
+use Rattle.proc_map.specs.Search.{path-at, LooksUp}
 use Rattle.proc_map.proofs.Finding.{path-in-line, found-here, passed, looks-up-once}
 use Rattle.proc_map.proofs.find.find_library_path_by_name.Needs as need
 
