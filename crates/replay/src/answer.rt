@@ -81,7 +81,7 @@ fn line(rt: &LibcRuntime, bytes: &[u8]) -> io::Result<()> {
     optional(rt, entry.path)
 }
 
-// A path with its place, and its length and bytes.
+// A path with its place and its bytes.
 fn part(rt: &LibcRuntime, word: &str, part: Part<'_>) -> io::Result<()> {
     let place = part.place;
     print!(rt, "{word} {place} ")?;

@@ -53,7 +53,7 @@ pub fn day(rt: &LibcRuntime) -> Result<bool, AnyError> {
     Ok(true)
 }
 
-// The lines of the maps that have a path.
+// The mappings, a line each.
 fn maps(rt: &LibcRuntime) -> io::Result<()> {
     let mut lines = Lines::new(MAPS);
     for _ in 0..MAPS.len() {
