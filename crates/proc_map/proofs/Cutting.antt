@@ -8,16 +8,18 @@ use native.Mathlib.Omega.{arith}
 use lib.Dec.{eqb, ltb}
 use lib.ListN.{length, take, drop}
 use Rattle.std.specs.shelf.Lists.{All, leading, ending}
-use Rattle.std.proofs.shelf.Lists.{length-drop, nil-from-length}
+use Rattle.std.proofs.shelf.Lists.{append-nil, length-drop, nil-from-length}
 use Rattle.std.proofs.shelf.Sums.{leading-le-length}
-use Rattle.std.proofs.shelf.Tests.{cases-eq, cond-true, cond-false, eq-eqb, ne-eqb, lt-ltb, le-ltb}
+use Rattle.std.proofs.shelf.Tests.{cases-eq, cases-lt, cond-true, cond-false, eq-eqb, ne-eqb, lt-ltb, le-ltb}
 use Rattle.bytes.specs.Cut.{cut, glued}
 use Rattle.bytes.specs.Parts.{PartOf}
 use Rattle.bytes.specs.Places.{Free, First}
 use Rattle.bytes.specs.Words.{white}
 use Rattle.bytes.proofs.Cuts.{cut-free, cut-lacks, glued-cut}
+use Rattle.bytes.proofs.FirstWords.{onward}
 use Rattle.bytes.proofs.Parted.{cut-first, length-front, part-front, part-back, part-taken}
-use Rattle.proc_map.specs.Maps.{Line, placed, trimmed, cut-lines, map-lines, LinesOf}
+use Rattle.proc_map.specs.Maps.{Line, placed, trimmed, cut-lines, map-lines, LinesOf, Trims}
+use Rattle.proc_map.proofs.Paths.{path-size, path-there, all-blank}
 
 abbrev line : ℕ → List ℕ → Line
 line place bytes = record { place = place; bytes = bytes }
@@ -70,6 +72,35 @@ trimmed-part maps =
     let left = length-drop (leading white maps) maps in
     part-taken maps (leading white maps) (length (drop (leading white maps) maps) - ending white (drop (leading white maps) maps)) (omega arith)
 
+trims-of : (maps : List ℕ) → Trims maps (trimmed maps)
+trims-of maps =
+    ⊎-elim
+    (λ some.
+    let h = path-there maps some in
+    record {
+      before = h .before;
+      after = h .after;
+      shape = h .shape;
+      blank-before = h .blank-before;
+      blank-after = h .blank-after;
+      first = λ _. h .first;
+      last = λ _. h .last;
+    })
+    (λ none.
+    let size : path-size maps ≡ 0 = omega arith in
+    let empty : trimmed maps ≡ [] = ap (λ n. take n (onward maps)) size in
+    subst (Trims maps) (sym empty)
+    (record {
+      before = maps;
+      after = [];
+      shape = sym (append-nil maps);
+      blank-before = all-blank maps size;
+      blank-after = λ k l. absurd (omega arith);
+      first = λ l. absurd (omega arith);
+      last = λ l. absurd (omega arith);
+    }))
+    (cases-lt 0 (path-size maps))
+
 -- the lines are the trimmed maps
 pub lines-of : (maps : List ℕ) → LinesOf maps (map-lines maps)
 lines-of maps =
@@ -78,11 +109,12 @@ lines-of maps =
     ⊎-elim
     (λ none.
     let empty : map-lines maps ≡ [] = cond-true (eqb (length text) 0) _ _ (eq-eqb (length text) 0 none) in
-    subst (LinesOf maps) (sym empty) (record { joined = sym (nil-from-length text none); whole = tt; places = tt }))
+    subst (LinesOf maps) (sym empty) (record { trims = trims-of maps; joined = sym (nil-from-length text none); whole = tt; places = tt }))
     (λ some.
     let full : map-lines maps ≡ placed place (cut 10 text) = cond-false (eqb (length text) 0) _ _ (ne-eqb (length text) 0 some) in
     subst (LinesOf maps) (sym full)
     (record {
+      trims = trims-of maps;
       joined = ap (glued 10) (placed-bytes place (cut 10 text)) ∙ glued-cut 10 text;
       whole = placed-free place (cut 10 text) (cut-lacks 10 text);
       places = placed-parts maps place (cut 10 text) (subst (PartOf maps place) (sym (glued-cut 10 text)) (trimmed-part maps));

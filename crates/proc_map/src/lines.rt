@@ -1,4 +1,4 @@
-// A cursor over the lines of maps: the struct alone, since its invariant cites no definition of the maps.
+// A cursor over the lines of maps: the struct alone. Its functions cite definitions that name it, and stand in cursor.rt.
 ghost use Prim.Native.Nat.{_+_, _^_, _<_};
 ghost use lib.ListN.{length};
 

@@ -20,10 +20,10 @@ offset: numbers are decimal, or hexadecimal behind 0x.
 A refusal is printed on the standard error with its number, and ends the program with status 1.
 ";
 
-/// Whether one of the words asks for help.
+/// Whether one of the words is `--help`.
 pub fn asks_help(words: &[String]) -> bool {
     for word in words {
-        if let "--help" | "-h" | "help" = word.as_str() {
+        if let "--help" = word.as_str() {
             return true;
         }
     }

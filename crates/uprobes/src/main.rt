@@ -35,6 +35,10 @@ fn run(rt: &LibcRuntime) -> Result<bool, AnyError> {
         "target" => lookup::target(rt, rest),
         "offset" => lookup::offset(rt, rest),
         "explain" => lookup::explanation(rt, rest),
+        "help" | "-h" => {
+            rt.print(command::HELP)?;
+            Ok(true)
+        }
         other => command::misused(rt, other),
     }
 }
