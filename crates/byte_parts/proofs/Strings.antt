@@ -1,5 +1,5 @@
 -- The zero-terminated string at a place, by the first zero byte from there on. Assumes nothing.
-use Rattle.std.proofs.Common.{◌≡◌, ℕ, ◌+◌, ◌-◌, ◌<◌, List, ◌∷◌, length, get_or, take, drop, sym, refl, ap, ◌∙◌, ⊎_elim, arith}
+use Rattle.std.proofs.Common.{◌≡◌, ℕ, ◌+◌, ◌<◌, List, ◌∷◌, length, get_or, take, drop, sym, refl, ap, ◌∙◌, ⊎_elim, arith}
 use Rattle.std.proofs.lemmas.List.{length-append, length-drop, get_or_append_left, get_or_at, get_or-drop, take_at}
 use Rattle.std.proofs.lemmas.Bool.{cases_order}
 use Rattle.byte_parts.specs.Places.{Free, First}

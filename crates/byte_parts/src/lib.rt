@@ -1,4 +1,6 @@
 // Bytes of texts and tables: where one stands, words, numbers, little-endian fields, zero-terminated strings.
+#![tactic(auto)]
+
 pub mod fields;
 pub mod find;
 pub mod number;

@@ -1,4 +1,6 @@
 // C-callable functions over the library, on numbers and byte slices. A slice is passed as a pointer and then a length.
+#![tactic(auto)]
+
 ghost use Rattle.std.specs.Prelude.{◌≡◌, not, MatchResult, ◌==◌};
 ghost use Rattle.location.specs.Translation.{translated};
 ghost use Rattle.std.specs.Option.{option_map};

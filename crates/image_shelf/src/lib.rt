@@ -1,4 +1,6 @@
 // A shelf of ELF images: rows of path and image over one slice of bytes.
+#![tactic(auto)]
+
 pub mod check;
 mod entry;
 mod files;

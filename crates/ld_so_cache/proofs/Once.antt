@@ -1,5 +1,5 @@
 -- A cache has one fault at most, and a search of it one answer. Assumes nothing.
-use Rattle.std.proofs.Common.{◌≡◌, ℕ, ◌⊎◌, List, sym, refl, ap, ◌∙◌, subst, inl, inr, ⊎_elim, arith}
+use Rattle.std.proofs.Common.{◌≡◌, ℕ, List, sym, refl, ap, ◌∙◌, subst, inl, inr, ⊎_elim, arith}
 use Rattle.std.proofs.lemmas.Bool.{cases_order}
 use Rattle.byte_parts.proofs.Strings.{string_once}
 use Rattle.ld_so_cache.specs.declared.fault.CacheFault.{CacheFault}

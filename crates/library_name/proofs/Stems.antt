@@ -1,6 +1,6 @@
 -- A name has one stem, and what follows it decides which names it stands for. Assumes nothing.
-use Rattle.std.proofs.Common.{◌≡◌, ℕ, Bool, ◌⊎◌, List, [], ◌++◌, length, take, drop, Some, None, Decides, Option, sym, ap, ◌∙◌, subst, inl, inr, ⊎_elim, append_assoc, Bor, MatchOption}
-use Rattle.std.specs.Cmp.Lexicographic.{Matches}
+use Rattle.std.proofs.Common.{◌≡◌, ℕ, eqb, Bool, ◌⊎◌, List, [], ◌++◌, length, drop, Some, None, Decides, Option, sym, ap, ◌∙◌, subst, inl, inr, ⊎_elim, append_assoc, Bor, MatchOption}
+use Rattle.std.specs.List.{starts_with}
 use Rattle.std.proofs.lemmas.Slice.Eq.{starts_is}
 use Rattle.std.proofs.lemmas.List.{append_cancel_left, append_cancel_right}
 use Rattle.std.proofs.lemmas.Bool.Decides.{Decides-like, Decides-eqb}
@@ -18,7 +18,7 @@ after_stem_of target name stem s (Some x) e = record { stem = stem; stemmed = s;
 after_stem_of target name stem s None none = λ rest h. none rest (h.shape ∙ ap (λ l. l ++ rest) (one_stem h.stemmed s))
 
 -- what `starts_with` answers
-pub starts_decides : (s p : List ℕ) (r : Bool) → Matches (λ (a b : ℕ) (t : Bool). Decides t (a ≡ b)) p (take (length p) s) r → Decides r (Starts p s)
+pub starts_decides : (s p : List ℕ) (r : Bool) → r ≡ starts_with eqb s p → Decides r (Starts p s)
 starts_decides s p r m =
     let both = starts_is Decides-eqb s p r m in
     (λ t. (drop (length p) s, both.0 t), λ h. both.1 h.0 h.1)

@@ -1,4 +1,6 @@
 // Which file names and which cache keys a target's name stands for.
+#![tactic(auto)]
+
 ghost use Rattle.std.specs.Prelude.{ℕ, List, Decides, MatchOption};
 ghost use Rattle.library_name.specs.Names.{Stem, AfterStem, NamesFile, NamesKey};
 

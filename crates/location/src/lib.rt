@@ -1,4 +1,6 @@
 // Addresses and file offsets, and the one way from the first to the second: through a section.
+#![tactic(auto)]
+
 ghost use Rattle.std.specs.Prelude.{◌≡◌, ◌+◌, IfOk};
 ghost use Rattle.location.specs.Translation.{location_refusal, outcome, translated};
 

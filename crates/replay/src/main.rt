@@ -2,6 +2,8 @@
 //
 // A case is a word for the question and then its inputs, bytes in hexadecimal, `-` for no bytes and
 // `!` for an input that cannot be read.
+#![tactic(auto)]
+
 mod answer;
 mod words;
 

@@ -13,7 +13,7 @@ pub fn file_name(path: &[u8]) -> Option<&[u8]>
         return None;
     };
     let name = &path[start..end];
-    if name == b"." || name == b".." {
+    if name == b".".as_slice() || name == b"..".as_slice() {
         return None;
     }
     Some(name)

@@ -18,7 +18,7 @@ pub(crate) struct Piece {
 fn is_kept(piece: &[u8]) -> bool
     ensures value { result ≡ later piece.now }
 {
-    !piece.is_empty() && piece != b"."
+    !piece.is_empty() && piece != b".".as_slice()
 }
 
 /// The last piece of `path`, or none where it has none.

@@ -1,4 +1,6 @@
 // The command `uprobes`: what a technician types.
+#![tactic(auto)]
+
 mod command;
 mod day;
 mod explain;

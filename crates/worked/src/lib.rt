@@ -1,4 +1,6 @@
 // The worked examples of the documents, as one theorem over the definitions that the contracts cite.
+#![tactic(auto)]
+
 ghost use Rattle.std.specs.Prelude.{◌≡◌};
 ghost use Rattle.worked.specs.Examples.{WorkedExamples};
 

@@ -5,4 +5,4 @@ use Rattle.std.proofs.lemmas.Bool.Decides.{Decides-eqb}
 
 pub returns : goal.returns
 returns c =
-    record { cases = after_stem_of _ _ _ c.stem.ensures.value _ (strip_prefix_is Decides-eqb _ _ _ c.strip-prefix.ensures.cases) }
+    record { cases = after_stem_of _ _ _ c.stem.ensures.value _ (strip_prefix_is Decides-eqb _ _ _ c.strip_prefix.ensures.cases) }

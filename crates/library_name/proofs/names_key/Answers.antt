@@ -12,7 +12,7 @@ returns-then-eq c = record { value = (λ _. inl ((slice_eq-Decides Decides-eqb _
 pub returns-in-Some : goal.returns-in-Some
 returns-in-Some c =
     let other = not_from_Decides _ (slice_eq-Decides Decides-eqb _ _ _ c.eq.ensures) c.if-eq.false in
-    record { value = key_by_rest c.in-Some.ensures.cases _ other (starts_decides _ dot_so _ c.starts-with.ensures.value) }
+    record { value = key_by_rest c.in-Some.ensures.cases _ other (starts_decides _ dot_so _ c.starts_with.ensures.value) }
 
 pub returns-in-None : goal.returns-in-None
 returns-in-None c =

@@ -7,7 +7,7 @@ use Rattle.attach_target.proofs.target.find_in_cache.Goals as goal
 
 pub returns-in-Some-resolve : goal.returns-in-Some-resolve
 returns-in-Some-resolve c =
-    let checked = c.in-ok-parse.ensures.cases in
+    let checked = c.in_ok-parse.ensures.cases in
     let hit = c.in-Some-resolve.ensures.cases in
     let given = sym c.in-Some.is in
     let target = c.args.target.now in
@@ -19,7 +19,7 @@ returns-in-Some-resolve c =
 
 pub returns-in-None : goal.returns-in-None
 returns-in-None c =
-    let checked = c.in-ok-parse.ensures.cases in
+    let checked = c.in_ok-parse.ensures.cases in
     let target = c.args.target.now in
     record {
       answer = subst (λ o. CacheSays target (option_map (λ x. x.now) o) (turned_away (refuse 9 []))) (sym c.in-Some.is) (cache_miss checked.0 checked.1 checked.2 target c.in-None.ensures.cases);

@@ -11,9 +11,9 @@ returns-then-place-bytes c =
     let none : (s : List ℕ) → StringAt c.args.bytes.now c.args.place s → ⊥ = λ s h. omega (arith, string_fits h) in
     record { cases = none; value = sym (string_in_none _ _ none) }
 
-pub returns-in-default : goal.returns-in-default
-returns-in-default c =
-    let none = no_string _ _ (rw take_rest at c.in-default.ensures.cases) in
+pub returns-in_default : goal.returns-in_default
+returns-in_default c =
+    let none = no_string _ _ (rw take_rest at c.in_default.ensures.cases) in
     record { cases = none; value = sym (string_in_none _ _ none) }
 
 pub returns : goal.returns

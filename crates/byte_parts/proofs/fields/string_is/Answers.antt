@@ -25,12 +25,12 @@ pub returns-then-bytes-place-ne0 : goal.returns-then-bytes-place-ne0
 returns-then-bytes-place-ne0 c =
     record { value = (λ e. absurd (false≢true e), λ e. absurd (c.if-bytes-place-ne0.true (is_ended c.args.bytes.now c.args.text.now c.args.place e))) }
 
-pub returns-then-not-stands-at : goal.returns-then-not-stands-at
-returns-then-not-stands-at c =
+pub returns-then-not-stands_at : goal.returns-then-not-stands_at
+returns-then-not-stands_at c =
     record {
       value = (
         λ e. absurd (false≢true e),
-        λ e. absurd (both_ways _ (sym c.if-not-stands-at.ensures.value) (is_there c.args.bytes.now c.args.text.now c.args.place e)),
+        λ e. absurd (both_ways _ (sym c.if-not-stands_at.ensures.value) (is_there c.args.bytes.now c.args.text.now c.args.place e)),
       );
     }
 
@@ -42,7 +42,7 @@ pub returns-in-None : goal.returns-in-None
 returns-in-None c =
     record {
       value = (
-        λ _. is_found c.args.bytes.now c.args.text.now c.args.place (omega arith) c.if-bytes-place-ne0.false (sym c.if-not-stands-at.ensures.value) c.in-None.ensures.cases,
+        λ _. is_found c.args.bytes.now c.args.text.now c.args.place (omega arith) c.if-bytes-place-ne0.false (sym c.if-not-stands_at.ensures.value) c.in-None.ensures.cases,
         λ _. refl,
       );
     }

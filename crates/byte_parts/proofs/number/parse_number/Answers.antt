@@ -10,6 +10,6 @@ small_base : (r : Radix) → base r ≤ 36
 small_base Decimal = lit≤ tt
 small_base Hexadecimal = lit≤ tt
 
-pub returns-in-default : goal.returns-in-default
-returns-in-default c =
-    record { cases = λ n w. c.in-default.ensures.cases.0 (IsUtf8-from_ascii _ (writes_ascii _ _ n (small_base c.args.radix) w)) }
+pub returns-in_default : goal.returns-in_default
+returns-in_default c =
+    record { cases = λ n w. c.in_default.ensures.cases.0 (IsUtf8-from_ascii _ (writes_ascii _ _ n (small_base c.args.radix) w)) }

@@ -5,6 +5,6 @@ use Rattle.byte_parts.proofs.words.leading_white.Goals as goal
 
 pub returns : goal.returns
 returns c =
-    let cut = c.trim-ascii-start.ensures.value in
+    let cut = c.trim_ascii_start.ensures.value in
     let run = leading_is white c.args.text.now cut.0 0 (omega arith) cut.3 cut.4 in
     record { value = omega arith; bound = omega arith }

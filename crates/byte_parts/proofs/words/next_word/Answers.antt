@@ -7,13 +7,13 @@ pub returns-then-len-eq0 : goal.returns-then-len-eq0
 returns-then-len-eq0 c =
     let text = c.args.text.now in
     record {
-      cases = no_word text _ _ _ c.leading-white-start.ensures.value (take_rest text c.leading-white-start.result) c.word-len-len.ensures.value c.if-len-eq0.true;
+      cases = no_word text _ _ _ c.leading_white-start.ensures.value (take_rest text c.leading_white-start.result) c.word_len-len.ensures.value c.if-len-eq0.true;
     }
 
 pub returns : goal.returns
 returns c =
     let text = c.args.text.now in
-    let n = c.word-len-len.result in
+    let n = c.word_len-len.result in
     record {
-      cases = word_found text _ n _ _ _ c.leading-white-start.ensures.value (take_rest text c.leading-white-start.result) c.word-len-len.ensures.value c.if-len-eq0.false (rw sub-zero) (take_rest _ n);
+      cases = word_found text _ n _ _ _ c.leading_white-start.ensures.value (take_rest text c.leading_white-start.result) c.word_len-len.ensures.value c.if-len-eq0.false (rw sub-zero) (take_rest _ n);
     }

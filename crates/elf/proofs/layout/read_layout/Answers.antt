@@ -5,7 +5,7 @@ use Rattle.elf.proofs.layout.read_layout.Goals as goal
 pub returns : goal.returns
 returns c =
     record {
-      value = c.find-layout.ensures.value;
-      law = laws_hold c.args.places c.args.image.now c.find-layout.result c.find-layout.ensures.value;
+      value = c.find_layout.ensures.value;
+      law = laws_hold c.args.places c.args.image.now c.find_layout.result c.find_layout.ensures.value;
       frame = only_parts c.args.places c.args.image.now;
     }

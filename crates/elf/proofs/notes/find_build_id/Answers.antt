@@ -13,7 +13,7 @@ returns-in-Found c =
     let n = c.loop-number.number in
     let some = c.loop-number.auto.number in
     let l = c.loop-number-test.true in
-    let here = numbered_is p xs t c.requires n some l _ c.in-ok-section.ensures.value in
+    let here = numbered_is p xs t c.requires n some l _ c.in_ok-section.ensures.value in
     record { value = sym (ap build_id (c.loop-number.invariant ∙ more_notes p xs t n some l _ here c.if-section-eq-NOTE.true _ c.in-Found.ensures.value)) }
 
 pub returns-in-Malformed : goal.returns-in-Malformed
@@ -24,7 +24,7 @@ returns-in-Malformed c =
     let n = c.loop-number.number in
     let some = c.loop-number.auto.number in
     let l = c.loop-number-test.true in
-    let here = numbered_is p xs t c.requires n some l _ c.in-ok-section.ensures.value in
+    let here = numbered_is p xs t c.requires n some l _ c.in_ok-section.ensures.value in
     record { value = sym (ap build_id (c.loop-number.invariant ∙ more_notes p xs t n some l _ here c.if-section-eq-NOTE.true _ c.in-Malformed.ensures.value)) }
 
 pub loop-number-preserved : goal.loop-number-preserved
@@ -35,7 +35,7 @@ loop-number-preserved c =
     let n = c.loop-number.number in
     let some = c.loop-number.auto.number in
     let l = c.loop-number-test.true in
-    let here = numbered_is p xs t c.requires n some l _ c.in-ok-section.ensures.value in
+    let here = numbered_is p xs t c.requires n some l _ c.in_ok-section.ensures.value in
     elim c.if-section-eq-NOTE.branch [
       | then-section-eq-NOTE+in-End w ↦ c.loop-number.invariant ∙ more_notes p xs t n some l _ here w.if-section-eq-NOTE.true _ w.in-End.ensures.value
       | else-section-eq-NOTE w ↦ c.loop-number.invariant ∙ more_other p xs t n some l _ here w.if-section-eq-NOTE.false

@@ -4,8 +4,8 @@ use Rattle.byte_parts.proofs.Spans.{stretch_is}
 use Rattle.elf.proofs.NoteRuns.{Within, notes_within}
 use Rattle.elf.proofs.notes.notes_in_section.Goals as goal
 
-pub overflow-add-result : goal.overflow-add-result
-overflow-add-result c =
+pub overflow_add-result : goal.overflow_add-result
+overflow_add-result c =
     let image = c.args.image.now in
     let span = c.in-Some.span in
     let there = stretch_is image span.place span.len _ c.in-Some-part.ensures.value in

@@ -17,11 +17,11 @@ loop-i-preserved c =
     let ys = c.loop-i.rows in
     let i = c.loop-i.i in
     let x = get_or ys i blank in
-    laid_more bytes xs ys i x c.read-layout.result c.loop-i-test.true c.loop-i.invariant
+    laid_more bytes xs ys i x c.read_layout.result c.loop-i-test.true c.loop-i.invariant
     (get_or_default ys i blank x (omega arith))
-    (c.read-layout.ensures.value
-    ∙ ap (λ p. layout_of p c.part-or-empty-image.result.now) c.elf64-places.ensures.value
-    ∙ ap (layout_of elf64) c.part-or-empty-image.ensures.value)
+    (c.read_layout.ensures.value
+    ∙ ap (λ p. layout_of p c.part_or_empty-image.result.now) c.elf64_places.ensures.value
+    ∙ ap (layout_of elf64) c.part_or_empty-image.ensures.value)
 
 pub returns : goal.returns
 returns c = record { items = laid_all c.args.bytes.now c.args.rows.now c.loop-i.rows c.loop-i.i c.loop-i-test.false c.loop-i.invariant }

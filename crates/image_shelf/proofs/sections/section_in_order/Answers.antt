@@ -7,12 +7,12 @@ use Rattle.image_shelf.proofs.sections.section_in_order.Goals as goal
 pub returns-then-place-table : goal.returns-then-place-table
 returns-then-place-table c = let past = c.if-place-table.true in record { value = sym (place_none elf64 c.args.image.now c.args.table c.requires c.args.place (omega arith)) }
 
-pub returns-in-err-header : goal.returns-in-err-header
-returns-in-err-header c =
-    let none = subst (λ p. None ≡ numbered p c.args.image.now c.args.table (c.args.place + 1)) c.elf64-places.ensures.value c.in-err-header.ensures.value in
-    record { value = c.from-residual.ensures ∙ sym (place_gone elf64 c.args.image.now c.args.table c.requires c.args.place none) }
+pub returns-in_err-header : goal.returns-in_err-header
+returns-in_err-header c =
+    let none = subst (λ p. None ≡ numbered p c.args.image.now c.args.table (c.args.place + 1)) c.elf64_places.ensures.value c.in_err-header.ensures.value in
+    record { value = c.from_residual.ensures ∙ sym (place_gone elf64 c.args.image.now c.args.table c.requires c.args.place none) }
 
 pub returns : goal.returns
 returns c =
-    let there = subst (λ p. Some c.in-ok-header.header ≡ numbered p c.args.image.now c.args.table (c.args.place + 1)) c.elf64-places.ensures.value c.in-ok-header.ensures.value in
-    record { value = ap Some c.section-from.ensures.value ∙ sym (place_found elf64 c.args.image.now c.args.table c.requires c.args.place _ there) }
+    let there = subst (λ p. Some c.in_ok-header.header ≡ numbered p c.args.image.now c.args.table (c.args.place + 1)) c.elf64_places.ensures.value c.in_ok-header.ensures.value in
+    record { value = ap Some c.section_from.ensures.value ∙ sym (place_found elf64 c.args.image.now c.args.table c.requires c.args.place _ there) }

@@ -6,8 +6,8 @@ returns-in-Some c = record { value = file_points _ _ _ _ _ c.in-Some.ensures.cas
 
 pub returns-in-Some-find : goal.returns-in-Some-find
 returns-in-Some-find c =
-    record { value = symbol_points _ _ _ _ c.in-default.ensures.cases _ c.in-Some-find.ensures.cases }
+    record { value = symbol_points _ _ _ _ c.in_default.ensures.cases _ c.in-Some-find.ensures.cases }
 
 pub returns-in-None : goal.returns-in-None
 returns-in-None c =
-    record { value = none_points _ _ _ _ c.in-default.ensures.cases c.in-None.ensures.cases }
+    record { value = none_points _ _ _ _ c.in_default.ensures.cases c.in-None.ensures.cases }

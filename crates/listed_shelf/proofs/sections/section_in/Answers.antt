@@ -10,7 +10,7 @@ returns-in-Some c =
     record {
       value =
           c.section_of.ensures.value
-          ∙ ap (option_map section_model) (c.row-at.ensures.value ∙ row_found (λ s. eqb s.number c.args.number) c.args.rows.now c.in-Some.place c.in-Some.ensures.cases)
+          ∙ ap (option_map section_model) (c.row_at.ensures.value ∙ row_found (λ s. eqb s.number c.args.number) c.args.rows.now c.in-Some.place c.in-Some.ensures.cases)
           ∙ first_with_map (λ s. eqb s.number c.args.number) section_model c.args.rows.now;
     }
 

@@ -15,28 +15,28 @@ loop-line-init c =
     (λ a h. subst (λ ls. LooksUp target ls a) all h, subst (All (λ x. PartOf maps x.place x.bytes)) (sym all) c.new-lines.ensures.law.places)
 
 -- the path that is answered stands in the maps
-path-part : (c : goal.In-Some-named-path) → PartOf c.args.maps.now (c.in-Some.line.place + c.in-ok-entry.entry.path_place) c.in-Some-named-path.path.now
+path-part : (c : goal.In-Some-named_path) → PartOf c.args.maps.now (c.in-Some.line.place + c.in_ok-entry.entry.path_place) c.in-Some-named_path.path.now
 path-part c =
     let maps = c.args.maps.now in
     let lines = subst (All (λ x. PartOf maps x.place x.bytes)) c.in-Some.ensures.cases c.loop-line.invariant.1 in
-    part_of_part lines.0 (path_in_line c.in-ok-entry.ensures.cases c.in-Some-named-path.ensures.cases.has)
+    part_of_part lines.0 (path_in_line c.in_ok-entry.ensures.cases c.in-Some-named_path.ensures.cases.has)
 
-pub overflow-add-result : goal.overflow-add-result
-overflow-add-result c = let fits = (path-part c).within in omega arith
+pub overflow_add-result : goal.overflow_add-result
+overflow_add-result c = let fits = (path-part c).within in omega arith
 
-pub returns-in-Some-named-path : goal.returns-in-Some-named-path
-returns-in-Some-named-path c =
+pub returns-in-Some-named_path : goal.returns-in-Some-named_path
+returns-in-Some-named_path c =
     let target = c.args.target.now in
     let left = lines_left c.next.new.self in
-    let answer = path_at (c.in-Some.line.place + c.in-ok-entry.entry.path_place) c.in-Some-named-path.path.now in
+    let answer = path_at (c.in-Some.line.place + c.in_ok-entry.entry.path_place) c.in-Some-named_path.path.now in
     record {
-      answer = c.loop-line.invariant.0 answer (subst (λ ls. LooksUp target ls answer) (sym c.in-Some.ensures.cases) (found_here (line_of c.in-Some.line) left c.in-ok-entry.ensures.cases c.in-Some-named-path.ensures.cases));
+      answer = c.loop-line.invariant.0 answer (subst (λ ls. LooksUp target ls answer) (sym c.in-Some.ensures.cases) (found_here (line_of c.in-Some.line) left c.in_ok-entry.ensures.cases c.in-Some-named_path.ensures.cases));
       once = looks_up_once;
       part = path-part c;
     }
 
-pub returns-in-err-entry : goal.returns-in-err-entry
-returns-in-err-entry c = record { answer = search rules; once = looks_up_once; part = search rules }
+pub returns-in_err-entry : goal.returns-in_err-entry
+returns-in_err-entry c = record { answer = search rules; once = looks_up_once; part = search rules }
 
 pub returns : goal.returns
 returns c = record { answer = search rules; once = looks_up_once; part = tt }
@@ -47,6 +47,6 @@ loop-line-preserved c =
     let maps = c.args.maps.now in
     let left = lines_left c.next.new.self in
     let lines = c.in-Some.ensures.cases in (
-      λ a h. c.loop-line.invariant.0 a (subst (λ ls. LooksUp target ls a) (sym lines) (passed (line_of c.in-Some.line) left a c.in-ok-entry.ensures.cases c.in-default-named-path.ensures.cases h)),
+      λ a h. c.loop-line.invariant.0 a (subst (λ ls. LooksUp target ls a) (sym lines) (passed (line_of c.in-Some.line) left a c.in_ok-entry.ensures.cases c.in_default-named_path.ensures.cases h)),
       (subst (All (λ x. PartOf maps x.place x.bytes)) lines c.loop-line.invariant.1).1,
     )

@@ -6,24 +6,24 @@ use Rattle.unix_path.proofs.Names.{one_file_name}
 use Rattle.library_name.specs.Names.{NamesFile}
 use Rattle.proc_map.proofs.find.named_path.Goals as goal
 
-pub returns-in-err-file : goal.returns-in-err-file
-returns-in-err-file c =
-    rw c.from-residual-in-err-file.ensures
+pub returns-in_err-file : goal.returns-in_err-file
+returns-in_err-file c =
+    rw c.from_residual-in_err-file.ensures
     (record {
       cases = λ p n.
-          let told = ap (option_map (λ x. x.now)) c.in-ok-path.was in
+          let told = ap (option_map (λ x. x.now)) c.in_ok-path.was in
           let has = n.has in
-          let same : p ≡ c.in-ok-path.path.now = cc in
-          c.in-err-file.ensures.cases n.file (subst (λ l. FileName l n.file) same n.last);
+          let same : p ≡ c.in_ok-path.path.now = cc in
+          c.in_err-file.ensures.cases n.file (subst (λ l. FileName l n.file) same n.last);
     })
 
-pub returns-else-names-file : goal.returns-else-names-file
-returns-else-names-file c =
+pub returns-else-names_file : goal.returns-else-names_file
+returns-else-names_file c =
     record {
       cases = λ p n.
-          let told = ap (option_map (λ x. x.now)) c.in-ok-path.was in
+          let told = ap (option_map (λ x. x.now)) c.in_ok-path.was in
           let has = n.has in
-          let same : p ≡ c.in-ok-path.path.now = cc in
-          let file = one_file_name (subst (λ l. FileName l n.file) same n.last) c.in-ok-file.ensures.cases in
-          false≢true (c.if-names-file.ensures.value.1 (subst (NamesFile c.args.target.now) file n.names));
+          let same : p ≡ c.in_ok-path.path.now = cc in
+          let file = one_file_name (subst (λ l. FileName l n.file) same n.last) c.in_ok-file.ensures.cases in
+          false≢true (c.if-names_file.ensures.value.1 (subst (NamesFile c.args.target.now) file n.names));
     }

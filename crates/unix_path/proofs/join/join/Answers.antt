@@ -10,8 +10,8 @@ pub returns-then-out-start : goal.returns-then-out-start
 returns-then-out-start c =
     let base = c.args.base.now in
     let name = c.args.name.now in
-    let gap_len = c.from.ensures ∙ ap (λ b. bool_byte (not b)) c.is-open-ended.ensures.value in
-    let size = joined_size c.front-of-front.result.now c.from.result gap_len base name c.front-of-front.ensures.value in
+    let gap_len = c.from.ensures ∙ ap (λ b. bool_byte (not b)) c.is_open_ended.ensures.value in
+    let size = joined_size c.front_of-front.result.now c.from.result gap_len base name c.front_of-front.ensures.value in
     let short : length c.args.out.now < length (joined_path base name) =
     elim c.then-out-start.branch [
       | then-out-start-via-then-out-start w ↦ let l = w.if-out-start.true in omega arith
@@ -24,11 +24,11 @@ returns c =
     let base = c.args.base.now in
     let name = c.args.name.now in
     let out = c.args.out.now in
-    let front = c.front-of-front.result.now in
+    let front = c.front_of-front.result.now in
     let k = c.from.result in
-    let is_front = c.front-of-front.ensures.value in
-    let gap_len = c.from.ensures ∙ ap (λ b. bool_byte (not b)) c.is-open-ended.ensures.value in
-    let copied = c.copy-from-slice.ensures.after in
+    let is_front = c.front_of-front.ensures.value in
+    let gap_len = c.from.ensures ∙ ap (λ b. bool_byte (not b)) c.is_open_ended.ensures.value in
+    let copied = c.copy_from_slice.ensures.after in
     let fits = c.if-out-start.false in
     let before_name : c.if-front-start.out ≡ (front ++ gap front) ++ drop (length front + k) out =
     elim c.if-front-start.branch [
@@ -38,6 +38,6 @@ returns c =
       | else-front-start w ↦ w.out-is ∙ slash_left front k gap_len out _ copied w.if-front-start.false
     ] in
     record {
-      cases = (sym (joined_size front k gap_len base name is_front), name_written front k gap_len base name out _ _ _ is_front refl before_name c.copy-from-slice-2.ensures.after);
+      cases = (sym (joined_size front k gap_len base name is_front), name_written front k gap_len base name out _ _ _ is_front refl before_name c.copy_from_slice-2.ensures.after);
       opens = joined_opens base name;
     }

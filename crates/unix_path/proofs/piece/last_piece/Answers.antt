@@ -11,16 +11,16 @@ loop-slash-init c =
     let path = c.args.path.now in
     (omega arith, ap pieces (take_all (length path) path (omega arith)))
 
-pub returns-then-is-kept : goal.returns-then-is-kept
-returns-then-is-kept c =
+pub returns-then-is_kept : goal.returns-then-is_kept
+returns-then-is_kept c =
     let inv = c.loop-slash.invariant in
-    record { cases = piece_behind _ _ inv.0 inv.1 _ (rw sub-zero at c.in-Some.ensures.cases) (sym c.if-is-kept.ensures.value) }
+    record { cases = piece_behind _ _ inv.0 inv.1 _ (rw sub-zero at c.in-Some.ensures.cases) (sym c.if-is_kept.ensures.value) }
 
 pub loop-slash-preserved : goal.loop-slash-preserved
 loop-slash-preserved c =
     let inv = c.loop-slash.invariant in
     let at = rw sub-zero at c.in-Some.ensures.cases in
-    (search rules, piece_skipped _ _ inv.0 inv.1 _ at (sym c.if-is-kept.ensures.value))
+    (search rules, piece_skipped _ _ inv.0 inv.1 _ at (sym c.if-is_kept.ensures.value))
 
 pub returns-then-end-eq0 : goal.returns-then-end-eq0
 returns-then-end-eq0 c =
@@ -29,4 +29,4 @@ returns-then-end-eq0 c =
 pub returns : goal.returns
 returns c =
     let inv = c.loop-slash.invariant in
-    record { cases = piece_first _ _ inv.0 inv.1 (omega arith) c.in-default.ensures.cases }
+    record { cases = piece_first _ _ inv.0 inv.1 (omega arith) c.in_default.ensures.cases }

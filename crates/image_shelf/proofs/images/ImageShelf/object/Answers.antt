@@ -8,20 +8,20 @@ use Rattle.image_shelf.specs.Contents.{shelf_rows}
 use Rattle.image_shelf.proofs.FileRows.{no_file, object_listed, row_laid}
 use Rattle.image_shelf.proofs.images.ImageShelf.object.Goals as goal
 
-pub returns-in-default : goal.returns-in-default
-returns-in-default c =
-    let none = c.in-default.ensures.value ∙ ap (λ rows. slice_get rows c.args.file) c.used.ensures.value in
+pub returns-in_default : goal.returns-in_default
+returns-in_default c =
+    let none = c.in_default.ensures.value ∙ ap (λ rows. slice_get rows c.args.file) c.used.ensures.value in
     record { value = no_file c.args.self.now.bytes.now (shelf_rows c.args.self.now) c.args.file none; laid = tt }
 
-pub returns-in-default-layout : goal.returns-in-default-layout
-returns-in-default-layout c =
+pub returns-in_default-layout : goal.returns-in_default-layout
+returns-in_default-layout c =
     let bytes = c.args.self.now.bytes.now in
     let rows = shelf_rows c.args.self.now in
     let row = c.in-Some.row in
     let there = c.in-Some.ensures.value ∙ ap (λ l. slice_get l c.args.file) c.used.ensures.value in
     let laid = row_laid bytes rows c.args.self.now.laid c.args.file row there in
     record {
-      value = ap (option_map (object_in elf64 (read_of bytes row.image))) (sym c.in-default-layout.is) ∙ object_listed bytes rows c.args.file row there laid;
+      value = ap (option_map (object_in elf64 (read_of bytes row.image))) (sym c.in_default-layout.is) ∙ object_listed bytes rows c.args.file row there laid;
       laid = tt;
     }
 
@@ -32,7 +32,7 @@ returns c =
     let row = c.in-Some.row in
     let there = c.in-Some.ensures.value ∙ ap (λ l. slice_get l c.args.file) c.used.ensures.value in
     let laid = row_laid bytes rows c.args.self.now.laid c.args.file row there in
-    let read = c.part-or-empty.ensures.value in
+    let read = c.part_or_empty.ensures.value in
     record {
       value =
           ap (λ xs. Some (object_in elf64 xs c.in-Some-layout.layout)) read

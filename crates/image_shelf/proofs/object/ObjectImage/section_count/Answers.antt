@@ -9,4 +9,4 @@ pub returns : goal.returns
 returns c =
     let table = c.args.self.layout.sections in
     let long = length-map-range_with_len (λ n. section_model n (nth_section elf64 c.args.self.image.now table n)) 1 (table.count - 1) in
-    record { value = c.saturating-sub.ensures ∙ sym long }
+    record { value = c.saturating_sub.ensures ∙ sym long }

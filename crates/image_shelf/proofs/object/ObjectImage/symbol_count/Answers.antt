@@ -6,8 +6,8 @@ use Rattle.elf.proofs.Insides.{layout_inside}
 use Rattle.elf.proofs.Listings.{few_symbols, listed_length}
 use Rattle.image_shelf.proofs.object.ObjectImage.symbol_count.Goals as goal
 
-pub overflow-add-result : goal.overflow-add-result
-overflow-add-result c =
+pub overflow_add-result : goal.overflow_add-result
+overflow_add-result c =
     let xs = c.args.self.image.now in
     let inside = layout_inside elf64 xs _ c.requires in
     let dynamic = few_symbols xs c.args.self.layout.dynamic inside.dynamic in

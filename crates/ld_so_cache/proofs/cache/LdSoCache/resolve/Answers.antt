@@ -10,7 +10,7 @@ loop-index-preserved c =
     (λ m. (k v : List ℕ) → Entry c.args.self.now.bytes.now m k v → NamesKey c.args.target.now k → ⊥)
     c.loop-index.index
     c.loop-index.invariant
-    c.in-default.ensures.cases
+    c.in_default.ensures.cases
 
 pub returns-in-Some : goal.returns-in-Some
 returns-in-Some c =

@@ -5,4 +5,4 @@ use Rattle.listed_shelf.proofs.listed.ListedShelf.symbol_row.Goals as goal
 
 pub returns-in-Some : goal.returns-in-Some
 returns-in-Some c =
-    record { value = symbol_listed c.args.self.now c.args.file c.args.symbol c.in-Some.object c.row-at.result c.in-Some.ensures.value (c.row-at.ensures.value ∙ ap (λ l. slice_get l c.args.symbol) c.part-or-empty.ensures.value) }
+    record { value = symbol_listed c.args.self.now c.args.file c.args.symbol c.in-Some.object c.row_at.result c.in-Some.ensures.value (c.row_at.ensures.value ∙ ap (λ l. slice_get l c.args.symbol) c.part_or_empty.ensures.value) }

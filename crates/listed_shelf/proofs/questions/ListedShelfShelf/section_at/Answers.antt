@@ -13,7 +13,7 @@ returns-in-Some c =
     record {
       value =
           c.section_of.ensures.value
-          ∙ ap (option_map section_model) c.row-at.ensures.value
+          ∙ ap (option_map section_model) c.row_at.ensures.value
           ∙ sym (nth_map section_model c.in-Some.rows.now c.args.place)
           ∙ ap (λ p. ask p (λ l. slice_get l c.args.place)) c.in-Some.ensures.value
           ∙ ask_mapped (object_of (shelf_files c.args.self.now) c.args.file) (λ o. o.sections) (λ l. slice_get l c.args.place);

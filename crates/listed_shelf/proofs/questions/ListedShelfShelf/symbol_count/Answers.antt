@@ -9,6 +9,6 @@ pub returns-in-Some : goal.returns-in-Some
 returns-in-Some c =
     record {
       value =
-          ap Some (ap length c.part-or-empty.ensures.value ∙ sym (length-map (read_of c.args.self.now.symbols.now c.in-Some.object.symbols) (symbol_model c.args.self.now.text.now)))
+          ap Some (ap length c.part_or_empty.ensures.value ∙ sym (length-map (read_of c.args.self.now.symbols.now c.in-Some.object.symbols) (symbol_model c.args.self.now.text.now)))
           ∙ ap (option_map (λ o. length o.symbols)) c.in-Some.ensures.value;
     }

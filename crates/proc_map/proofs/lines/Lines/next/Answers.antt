@@ -4,8 +4,8 @@ use Rattle.std.proofs.lemmas.List.{take_rest}
 use Rattle.proc_map.proofs.Cutting.{lines_last, lines_more}
 use Rattle.proc_map.proofs.lines.Lines.next.Goals as goal
 
-pub returns-in-default : goal.returns-in-default
-returns-in-default c = record { cases = lines_last _ _ _ c.if-not-self.false c.in-default.ensures.cases }
+pub returns-in_default : goal.returns-in_default
+returns-in_default c = record { cases = lines_last _ _ _ c.if-not-self.false c.in_default.ensures.cases }
 
 pub returns : goal.returns
 returns c =

@@ -9,7 +9,7 @@ loop-i-init g c =
     let inside = c.requires.within in (
       refl {a = c.args.self.now.len},
       refl {a = length c.args.self.now.rows.now},
-      refl {a = c.args.self.now.rows.name},
+      refl {a = c.args.self.now.rows.ghost_name},
       removed_none c.args.self.now.rows.now c.args.place (omega arith),
       refl {a = drop c.args.place c.args.self.now.rows.now},
     )

@@ -10,5 +10,5 @@ returns g c =
     record {
       cases = (omega arith, take_more_set c.args.self.now.rows.now c.args.self.now.len c.args.row (omega arith));
       capacity = length-set c.args.self.now.rows.now c.args.self.now.len c.args.row;
-      lent = refl {a = c.args.self.now.rows.name};
+      lent = refl {a = c.args.self.now.rows.ghost_name};
     }

@@ -11,5 +11,5 @@ returns-else-place-self g c =
       items = sym (removed_past (rows_of c.args.self.now) c.args.place (omega arith));
       same = λ _. refl {a = c.args.self.now};
       capacity = refl {a = room c.args.self.now};
-      lent = refl {a = c.args.self.now.rows.name};
+      lent = refl {a = c.args.self.now.rows.ghost_name};
     }

@@ -13,7 +13,7 @@ returns-then-place-self g c =
       items = take-set-lt c.args.self.now.len c.args.self.now.rows.now c.args.place c.args.row c.if-place-self.true;
       same = λ past. let no : ⊥ = omega arith in elim no [ ];
       capacity = length-set c.args.self.now.rows.now c.args.place c.args.row;
-      lent = refl {a = c.args.self.now.rows.name};
+      lent = refl {a = c.args.self.now.rows.ghost_name};
     }
 
 pub returns-else-place-self : goal.returns-else-place-self
@@ -24,5 +24,5 @@ returns-else-place-self g c =
       items = sym (set_past (rows_of c.args.self.now) c.args.place c.args.row (omega arith));
       same = λ _. refl {a = c.args.self.now};
       capacity = refl {a = room c.args.self.now};
-      lent = refl {a = c.args.self.now.rows.name};
+      lent = refl {a = c.args.self.now.rows.ghost_name};
     }
