@@ -1,7 +1,7 @@
 -- Laws of cutting a list at each place of a byte. Assumes nothing.
 use Rattle.std.proofs.Common.{◌≡◌, ℕ, zero, suc, eqb, List, [], ◌∷◌, ◌++◌, sym, refl, ap, ◌∙◌, subst, ⊎_elim, arith}
 use Rattle.std.proofs.lemmas.Bool.{cases_eq, eq-eqb, ne_eqb, cond-true, cond-false}
-use Rattle.std.specs.List.{AllByRecursion as All}
+use Rattle.std.specs.List.{AllByRecursion}
 use Rattle.byte_parts.specs.Places.{Free}
 use Rattle.byte_parts.specs.Cut.{cut, in_front, glued}
 
@@ -72,13 +72,13 @@ module _ (b : ℕ) where
   free_more c cs n f (suc k) l e = f k (omega arith) e
 
   -- and none of them has the byte
-  pub cut_lacks : (cs : List ℕ) → All (Free b) (cut b cs)
+  pub cut_lacks : (cs : List ℕ) → AllByRecursion (Free b) (cut b cs)
   unfolding cut
   cut_lacks [] = (λ k l e. omega arith, tt)
   cut_lacks (c ∷ cs) =
       let first = cut_some cs in
-      let all : All (Free b) (first.0 ∷ first.1) = subst (All (Free b)) first.2 (cut_lacks cs) in
+      let all : AllByRecursion (Free b) (first.0 ∷ first.1) = subst (AllByRecursion (Free b)) first.2 (cut_lacks cs) in
       ⊎_elim
-      (λ e. subst (All (Free b)) (sym (cond-true (eqb c b) _ _ (eq-eqb c b e))) (λ k l e. omega arith, cut_lacks cs))
-      (λ n. subst (All (Free b)) (sym (cut_other c cs n ∙ ap (in_front c) first.2)) (free_more c first.0 n all.0, all.1))
+      (λ e. subst (AllByRecursion (Free b)) (sym (cond-true (eqb c b) _ _ (eq-eqb c b e))) (λ k l e. omega arith, cut_lacks cs))
+      (λ n. subst (AllByRecursion (Free b)) (sym (cut_other c cs n ∙ ap (in_front c) first.2)) (free_more c first.0 n all.0, all.1))
       (cases_eq c b)

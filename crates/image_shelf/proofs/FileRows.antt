@@ -5,7 +5,7 @@ use base.Stored.{Coded-set}
 use Rattle.std.specs.Option.{option_map}
 use Rattle.std.specs.List.{slice_get}
 use Rattle.std.specs.Str.{bytes_eq}
-use Rattle.std.proofs.lemmas.Option.{slice_get-get_or as nth-getD, slice_get_past}
+use Rattle.std.proofs.lemmas.Option.{slice_get-get_or, slice_get_past}
 use Rattle.std.proofs.lemmas.Bool.{cases_lt}
 use Rattle.byte_parts.specs.Spans.{read_of}
 use Rattle.byte_parts.proofs.Mapped.{first_place_map, nth_map}
@@ -24,7 +24,7 @@ module _ (bytes : List ℕ) (rows : List ImageRow) where
   row_laid all file row e =
       ∥∥₁_elim all (Coded-set the_row.coded row _) (λ laid.
       ⊎_elim
-      (λ l. let there = nth-getD rows file row l in let same : get_or rows file row ≡ row = cc in rw same at (laid file row l))
+      (λ l. let there = slice_get-get_or rows file row l in let same : get_or rows file row ≡ row = cc in rw same at (laid file row l))
       (λ past.
       let gone = slice_get_past rows file past in
       let z : ◌≡◌ {A = ℕ} 0 1 = cc in

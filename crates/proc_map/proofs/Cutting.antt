@@ -1,6 +1,6 @@
 -- The lines of maps: what a cursor gives, and what they are together. Assumes nothing.
 use Rattle.std.proofs.Common.{◌≡◌, ℕ, ◌+◌, ◌-◌, Bool, true, cond, eqb, ltb, List, [], ◌∷◌, map, length, take, drop, sym, refl, ap, ◌∙◌, subst, ⊎_elim, arith}
-use Rattle.std.specs.List.{prefix_len, suffix_len, AllByRecursion as All}
+use Rattle.std.specs.List.{prefix_len, suffix_len, AllByRecursion}
 use Rattle.std.proofs.lemmas.List.{append-nil, length-drop, nil_from_length}
 use Rattle.std.proofs.lemmas.List.Sums.{prefix_len-le-length}
 use Rattle.std.proofs.lemmas.Bool.{cases_eq, cases_lt, cond-true, cond-false, eq-eqb, ne_eqb, lt-ltb, le-ltb}
@@ -48,11 +48,11 @@ placed_bytes : (place : ℕ) (ps : List (List ℕ)) → map (λ l. l.bytes) (pla
 placed_bytes place [] = refl
 placed_bytes place (p ∷ ps) = ap (λ l. p ∷ l) (placed_bytes (place + length p + 1) ps)
 
-placed_free : (place : ℕ) (ps : List (List ℕ)) → All (Free 10) ps → All (λ l. Free 10 l.bytes) (placed place ps)
+placed_free : (place : ℕ) (ps : List (List ℕ)) → AllByRecursion (Free 10) ps → AllByRecursion (λ l. Free 10 l.bytes) (placed place ps)
 placed_free place [] h = tt
 placed_free place (p ∷ ps) h = (h.0, placed_free (place + length p + 1) ps h.1)
 
-placed_parts : (maps : List ℕ) (place : ℕ) (ps : List (List ℕ)) → PartOf maps place (glued 10 ps) → All (λ l. PartOf maps l.place l.bytes) (placed place ps)
+placed_parts : (maps : List ℕ) (place : ℕ) (ps : List (List ℕ)) → PartOf maps place (glued 10 ps) → AllByRecursion (λ l. PartOf maps l.place l.bytes) (placed place ps)
 placed_parts maps place [] h = tt
 placed_parts maps place (p ∷ []) h = (h, tt)
 placed_parts maps place (p ∷ q ∷ ps) h =

@@ -1,6 +1,6 @@
 -- The lines of /proc/PID/maps. Assumes nothing.
 use Rattle.std.specs.Prelude.{◌≡◌, ℕ, ◌+◌, ◌-◌, ◌<◌, true, cond, List, [], ◌∷◌, ◌++◌, map, length, take, drop, ◌==◌, slice_index}
-use Rattle.std.specs.List.{prefix_len, suffix_len, AllByRecursion as All}
+use Rattle.std.specs.List.{prefix_len, suffix_len, AllByRecursion}
 use Rattle.byte_parts.specs.Cut.{cut, glued}
 use Rattle.byte_parts.specs.Parts.{PartOf}
 use Rattle.byte_parts.specs.Places.{Free}
@@ -43,5 +43,5 @@ pub record Trims (whole middle : List ℕ) : Type 0 where
 pub record LinesOf (maps : List ℕ) (lines : List Line) : Type 0 where
   pub trims : Trims maps (trimmed maps)
   pub joined : glued 10 (map (λ l. l.bytes) lines) ≡ trimmed maps
-  pub whole : All (λ l. Free 10 l.bytes) lines
-  pub places : All (λ l. PartOf maps l.place l.bytes) lines
+  pub whole : AllByRecursion (λ l. Free 10 l.bytes) lines
+  pub places : AllByRecursion (λ l. PartOf maps l.place l.bytes) lines

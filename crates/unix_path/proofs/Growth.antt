@@ -1,6 +1,6 @@
 -- A longer front of a path is read as no fewer pieces. Assumes nothing.
 use Rattle.std.proofs.Common.{◌≡◌, ℕ, ◌≤◌, Bool, true, ◌⊎◌, List, [], ◌∷◌, ◌++◌, length, filter, sym, refl, ap, ◌∙◌, subst, inl, inr, ⊎_elim, arith}
-use Rattle.std.specs.List.{AllByRecursion as All}
+use Rattle.std.specs.List.{AllByRecursion}
 use Rattle.std.proofs.lemmas.List.{append_assoc, append-nil, length-append}
 use Rattle.std.proofs.ByRecursion.{All-get_or, All-push}
 use Rattle.std.proofs.lemmas.Bool.{cases_eq, cases_Bool, cond-true, cond-false}
@@ -16,7 +16,7 @@ record Parted (xs : List ℕ) : Type 0 where
   front : List ℕ
   rest : List ℕ
   shape : xs ≡ front ++ rest
-  other : All Other rest
+  other : AllByRecursion Other rest
   opens : (front ≡ []) ⊎ ((u : List ℕ) × (front ≡ u ++ (slash ∷ [])))
 
 parted : (xs : List ℕ) → Parted xs
@@ -50,7 +50,7 @@ kept_more test x y g =
     (λ f. let a = ap length (cond-false (test x) (x ∷ []) [] f) in omega arith)
     (cases_Bool (test x))
 
-free : (xs : List ℕ) → All Other xs → Free slash xs
+free : (xs : List ℕ) → AllByRecursion Other xs → Free slash xs
 free xs all k l = All-get_or Other xs k 0 l all
 
 pieces_push : (xs : List ℕ) (c : ℕ) → length (pieces xs) ≤ length (pieces (xs ++ (c ∷ [])))

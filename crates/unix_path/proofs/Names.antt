@@ -1,6 +1,6 @@
 -- The file name of a path is its last piece. Assumes nothing.
 use Rattle.std.proofs.Common.{◌≡◌, ℕ, ◌<◌, true, false, not, List, [], ◌∷◌, ◌++◌, length, get_or, filter, sym, ap, ◌∙◌, subst, ⊎_elim, arith}
-use Rattle.std.specs.List.{ContainsAt as Has, AllByRecursion as All}
+use Rattle.std.specs.List.{ContainsAt as Has, AllByRecursion}
 use Rattle.std.specs.Str.{bytes_eq}
 use Rattle.std.proofs.ByRecursion.{All-append, all-has, all_kept_by, All-weaker, has_push, kept_by_passes}
 use Rattle.std.proofs.lemmas.Slice.Eq.{bytes_eq-Decides}
@@ -13,20 +13,20 @@ use Rattle.unix_path.specs.Paths.{slash, here, some, later, opened, pieces, root
 use Rattle.unix_path.proofs.Readings.{pieces_free, some_long, long_some}
 
 -- no piece has a slash
-pieces_lack : (path : List ℕ) → All (Free slash) (pieces path)
+pieces_lack : (path : List ℕ) → AllByRecursion (Free slash) (pieces path)
 pieces_lack path =
     let first = cut_some slash path in
-    let all : All (Free slash) (first.0 ∷ first.1) = subst (All (Free slash)) first.2 (cut_lacks slash path) in
-    subst (λ l. All (Free slash) (opened l)) (sym first.2)
+    let all : AllByRecursion (Free slash) (first.0 ∷ first.1) = subst (AllByRecursion (Free slash)) first.2 (cut_lacks slash path) in
+    subst (λ l. AllByRecursion (Free slash) (opened l)) (sym first.2)
     (All-append (Free slash) (filter some (first.0 ∷ [])) (filter later first.1)
     (all_kept_by some (Free slash) (first.0 ∷ []) (all.0, tt))
     (all_kept_by later (Free slash) first.1 all.1))
 
 -- and none is empty
-pieces_full : (path : List ℕ) → All (λ p. some p ≡ true) (pieces path)
+pieces_full : (path : List ℕ) → AllByRecursion (λ p. some p ≡ true) (pieces path)
 pieces_full path =
     let first = cut_some slash path in
-    subst (λ l. All (λ p. some p ≡ true) (opened l)) (sym first.2)
+    subst (λ l. AllByRecursion (λ p. some p ≡ true) (opened l)) (sym first.2)
     (All-append (λ p. some p ≡ true) (filter some (first.0 ∷ [])) (filter later first.1)
     (kept_by_passes some (first.0 ∷ []))
     (All-weaker (λ p. later p ≡ true) (λ p. some p ≡ true) (λ p h. (and_parts (some p) (not (bytes_eq p here)) h).0) (filter later first.1) (kept_by_passes later first.1)))
@@ -38,7 +38,7 @@ module _ {path name : List ℕ} (h : FileName path name) where
   pub one_name : (ps : List (List ℕ)) (p : List ℕ) → pieces path ≡ ps ++ (p ∷ []) → name ≡ p
   one_name ps p e = (same_from_push h.before ps name p (sym h.last ∙ e)).1
 
-  named : (P : List ℕ → Type 0) → All P (pieces path) → P name
+  named : (P : List ℕ → Type 0) → AllByRecursion P (pieces path) → P name
   named P all = all-has P (pieces path) name all (subst (λ l. Has l name) (sym h.last) (has_push h.before name))
 
   -- a file name has no slash, and is not empty

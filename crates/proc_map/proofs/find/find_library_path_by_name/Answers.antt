@@ -1,5 +1,5 @@
 use Rattle.std.proofs.Common.{◌+◌, sym, subst, arith, rules}
-use Rattle.std.specs.List.{AllByRecursion as All}
+use Rattle.std.specs.List.{AllByRecursion}
 use Rattle.byte_parts.specs.Parts.{PartOf}
 use Rattle.byte_parts.proofs.Parted.{part_of_part}
 use Rattle.proc_map.specs.Cursor.{line_of, lines_left}
@@ -12,13 +12,13 @@ loop-line-init c =
     let target = c.args.target.now in
     let maps = c.args.maps.now in
     let all = c.new-lines.ensures.lines in
-    (λ a h. subst (λ ls. LooksUp target ls a) all h, subst (All (λ x. PartOf maps x.place x.bytes)) (sym all) c.new-lines.ensures.law.places)
+    (λ a h. subst (λ ls. LooksUp target ls a) all h, subst (AllByRecursion (λ x. PartOf maps x.place x.bytes)) (sym all) c.new-lines.ensures.law.places)
 
 -- the path that is answered stands in the maps
 path-part : (c : goal.In-Some-named_path) → PartOf c.args.maps.now (c.in-Some.line.place + c.in_ok-entry.entry.path_place) c.in-Some-named_path.path.now
 path-part c =
     let maps = c.args.maps.now in
-    let lines = subst (All (λ x. PartOf maps x.place x.bytes)) c.in-Some.ensures.cases c.loop-line.invariant.1 in
+    let lines = subst (AllByRecursion (λ x. PartOf maps x.place x.bytes)) c.in-Some.ensures.cases c.loop-line.invariant.1 in
     part_of_part lines.0 (path_in_line c.in_ok-entry.ensures.cases c.in-Some-named_path.ensures.cases.has)
 
 pub overflow_add-result : goal.overflow_add-result
@@ -48,5 +48,5 @@ loop-line-preserved c =
     let left = lines_left c.next.new.self in
     let lines = c.in-Some.ensures.cases in (
       λ a h. c.loop-line.invariant.0 a (subst (λ ls. LooksUp target ls a) (sym lines) (passed (line_of c.in-Some.line) left a c.in_ok-entry.ensures.cases c.in_default-named_path.ensures.cases h)),
-      (subst (All (λ x. PartOf maps x.place x.bytes)) lines c.loop-line.invariant.1).1,
+      (subst (AllByRecursion (λ x. PartOf maps x.place x.bytes)) lines c.loop-line.invariant.1).1,
     )
