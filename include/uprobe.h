@@ -1,4 +1,4 @@
-/* The C-callable functions of crates/capi, which `rt staticlib capi` builds. A byte slice is a pointer and a length. */
+/* The C-callable functions of crates/capi, which `rt lib` there builds as out/libcapi.a. A byte slice is a pointer and a length. */
 #ifndef UPROBE_H
 #define UPROBE_H
 

@@ -20,6 +20,8 @@ OTHERWISE = {"worked-examples": "worked_examples_lem", "build-id": "build_id"}
 # bound variables
 VARIABLES = ["old-first", "old-second", "old-source", "old-entries", "old-entry", "old-len", "old-place", "name-place", "name-size", "desc-size", "key-from", "value-from", "zero-rows"]
 WORDS = {"little_endian": "little-endian", "called.gnu_debuglink": "called .gnu_debuglink"}
+# lines of src/ that hold a clause, or import for clauses
+GHOST = re.compile(r"\s*(ensures|requires|ghost) ")
 IMPORT = re.compile(r"^(pub )?use ")
 DECLARED = re.compile(r"^\s*(?:abbrev pub|unfoldable pub|pub record|pub data|pub|record|data|abbrev|unfoldable|let|module)?\s*([^\s:(){}]+)\s*:")
 LET = re.compile(r"let ([^\s:(){}=]+)")
@@ -87,8 +89,8 @@ def respell(names):
             out = []
             for line in open(p, encoding="utf-8"):
                 code, comment = parted(line, mark)
-                code = outside_strings(code, find, new)
-                if ending == ".antt" or re.match(r"\s*(ensures|requires)", code):
+                if ending == ".antt" or GHOST.match(code):
+                    code = outside_strings(code, find, new)
                     code = outside_strings(code, variables, free)
                 out.append(code + words_back(in_backquotes(comment, find, new)))
             with open(p, "w", encoding="utf-8") as f:

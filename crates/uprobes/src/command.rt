@@ -23,7 +23,7 @@ file: PATH is a 64-bit little-endian ELF file. It prints a line for each fact:
   symbol PLACE ADDRESS SECTION NAME        in the order of a scan, dynamic ones first; SECTION is
                                            none where it has none; no NAME where it cannot be read
   debuglink absent | malformed | named NAME
-  build_id absent | HEX
+  build-id absent | HEX
   For any other file it prints 'no object'.
 
 A refusal is printed on the standard error with its number, and ends the program with status 1.

@@ -8,14 +8,14 @@ mod inspect;
 mod lookup;
 mod show;
 
-use anyhow::anyhow;
 use std::env;
+use std::process::ExitCode;
 
-fn main(rt: HostRuntime) -> anyhow::Result<()> {
-    match run(&rt) {
-        Ok(true) => Ok(()),
-        Ok(false) => Err(anyhow!("refused")),
-        Err(error) => Err(error),
+fn main(rt: HostRuntime) -> anyhow::Result<ExitCode> {
+    if run(&rt)? {
+        Ok(ExitCode::SUCCESS)
+    } else {
+        Ok(ExitCode::FAILURE)
     }
 }
 
