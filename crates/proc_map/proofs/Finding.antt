@@ -1,6 +1,7 @@
 -- The look-up of a library, line by line. Assumes nothing.
 use Rattle.std.proofs.Common.{◌≡◌, ℕ, ◌+◌, ◌⊎◌, List, [], ◌∷◌, ◌++◌, length, Some, None, Option, sym, refl, ap, ◌∙◌, subst, inl, inr, arith}
 use Rattle.std.proofs.lemmas.List.{length-append}
+use Rattle.std.specs.List.{AllByRecursion}
 use Rattle.byte_parts.specs.Parts.{PartOf}
 use Rattle.byte_parts.proofs.Parted.{part_between, part_end, part_of_part}
 use Rattle.proc_map.specs.Line.{Mapping, PathIn, Ends, Reads}
@@ -27,6 +28,12 @@ pub path_in_line : {line : List ℕ} {m : Mapping} {path : List ℕ} → Reads l
 path_in_line {line} {m} {path} h has =
     let e = rest_ends h.words in
     ends_part line h.rest e.0 m.path m.path_place path e.1 h.ends has
+
+-- the path of the first of some lines that stand in the maps stands in the maps
+pub path_stands : (maps : List ℕ) {all : List Line} {l : Line} {ls : List Line} {m : Mapping} {path : List ℕ} → AllByRecursion (λ x. PartOf maps x.place x.bytes) all → all ≡ l ∷ ls → Reads l.bytes m → m.path ≡ Some path → PartOf maps (l.place + m.path_place) path
+path_stands maps parts first reads has =
+    let lines = subst (AllByRecursion (λ x. PartOf maps x.place x.bytes)) first parts in
+    part_of_part lines.0 (path_in_line reads has)
 
 -- what a line that says m leaves for the answer
 abbrev Answers : List ℕ → Line → List Line → Mapping → Found → Type 0

@@ -1,5 +1,5 @@
 // A library's path in maps, by the library's name.
-ghost use Rattle.std.specs.Prelude.{ℕ, List, IfSome, IfOk, MatchOption};
+ghost use Rattle.std.specs.Prelude.{◌≡◌, ℕ, ◌+◌, ◌^◌, ◌<◌, List, IfSome, IfOk, MatchOption};
 ghost use Rattle.byte_parts.specs.Parts.{PartOf};
 ghost use Rattle.proc_map.specs.Entry.{mapping};
 ghost use Rattle.proc_map.specs.Maps.{map_lines};
@@ -29,13 +29,22 @@ pub fn find_library_path_by_name<'a>(
     while let Some(line) = lines.next() {
         let entry = ProcMapEntry::parse(line)?;
         if let Some(path) = named_path(entry, target) {
-            return Ok(Some(Part {
-                place: line.place + entry.path_place,
-                bytes: path,
-            }));
+            return Ok(Some(path_in_maps(line, entry, path)));
         }
     }
     Ok(None)
+}
+
+// The path of a line's entry, by its place in the maps.
+fn path_in_maps<'a>(line: Part<'_>, entry: ProcMapEntry<'_>, path: &'a [u8]) -> Part<'a>
+    requires { line.place + entry.path_place < 2 ^ 64 }
+    ensures place { result.place ≡ line.entry.place + entry.entry.path_place }
+    ensures bytes { result.bytes.now ≡ path.now }
+{
+    Part {
+        place: line.place + entry.path_place,
+        bytes: path,
+    }
 }
 
 // The path of a mapping, where its file name stands for the target.
