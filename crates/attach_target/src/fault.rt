@@ -3,6 +3,7 @@ ghost use Rattle.std.specs.Prelude.{◌≡◌};
 ghost use Rattle.attach_target.specs.Faults.{target_refusal};
 ghost use Rattle.attach_target.specs.declared.fault.TargetFault.TheVariants.{Line, Cache};
 
+use byte_parts::refusal::Fault;
 use ld_so_cache::fault::CacheFault;
 use proc_map::fault::LineFault;
 
@@ -21,6 +22,7 @@ pub enum TargetFault {
     InvalidTarget,
 }
 
+// Each `From` by hand: its ghost member says that the fault is carried whole.
 impl From<LineFault> for TargetFault {
     ghost from_gives = { λ f r. r ≡ Line f };
 
@@ -37,11 +39,11 @@ impl From<CacheFault> for TargetFault {
     }
 }
 
-impl TargetFault {
-    /// The number of the refusal.
-    pub fn refusal(self) -> u32
-        ensures { result ≡ (target_refusal self).number }
-    {
+// The number of the refusal: 7, 3, 8, 4 to 6, or 9.
+impl Fault for TargetFault {
+    ghost told = { target_refusal };
+
+    fn refusal(self) -> u32 {
         match self {
             TargetFault::MapsUnreadable => 7,
             TargetFault::Line(fault) => fault.refusal(),

@@ -1,5 +1,5 @@
 // The look-up of a target: as given, in a process's maps, in the loader's cache.
-ghost use Rattle.std.specs.Prelude.{IfSome, IfOk, Decides};
+ghost use Rattle.std.specs.Prelude.{IfSome, IfOk, IsTrue, ◌↔◌};
 ghost use Rattle.std.specs.Option.{option_map};
 ghost use Rattle.attach_target.specs.Scopes.{uses_maps};
 ghost use Rattle.attach_target.specs.Targets.{answer, cache_found, maps_found, Bare, CacheSays, PartOfSome, Resolves, ResolvesOnce, Stands, Tells};
@@ -24,12 +24,9 @@ pub enum Target<'a> {
 
 /// Whether the target is a bare name: one that is its own file name.
 pub fn is_basename_only(target: &[u8]) -> bool
-    ensures { Decides result (Bare target.now) }
+    ensures { IsTrue result ↔ (Bare target.now) }
 {
-    match file_name(target) {
-        Some(name) => name == target,
-        None => false,
-    }
+    file_name(target).is_some_and(|name| name == target)
 }
 
 /// The path of the file that `target` stands for. A target that is no bare name is its own path.
@@ -46,19 +43,6 @@ pub fn resolve_attach_target<'a>(
 ) -> Result<Target<'a>, TargetFault>
     ensures answer { Resolves target.now (uses_maps scope) (option_map (λ x. x.now) maps.entry) (option_map (λ x. x.now) cache.entry) (answer result) }
     ensures once { ResolvesOnce }
-    ensures part { IfOk result (Stands target.now (option_map (λ x. x.now) maps.entry) (option_map (λ x. x.now) cache.entry)) }
-{
-    look_up(target, scope, maps, cache)
-}
-
-// The look-up itself, step by step.
-fn look_up<'a>(
-    target: &'a [u8],
-    scope: UProbeScope,
-    maps: Option<&'a [u8]>,
-    cache: Option<&'a [u8]>,
-) -> Result<Target<'a>, TargetFault>
-    ensures answer { Resolves target.now (uses_maps scope) (option_map (λ x. x.now) maps.entry) (option_map (λ x. x.now) cache.entry) (answer result) }
     ensures part { IfOk result (Stands target.now (option_map (λ x. x.now) maps.entry) (option_map (λ x. x.now) cache.entry)) }
 {
     if !is_basename_only(target) {
@@ -81,11 +65,8 @@ fn find_in_maps<'a>(target: &[u8], maps: Option<&'a [u8]>) -> Result<Option<Part
     ensures answer { Tells target.now (option_map (λ x. x.now) maps.entry) (maps_found result) }
     ensures part { IfOk result (λ o. IfSome o (λ p. PartOfSome (option_map (λ x. x.now) maps.entry) p.place p.bytes.now)) }
 {
-    let Some(maps) = maps else {
-        return Err(TargetFault::MapsUnreadable);
-    };
-    let path = find_library_path_by_name(maps, target)?;
-    Ok(path)
+    let maps = maps.ok_or(TargetFault::MapsUnreadable)?;
+    Ok(find_library_path_by_name(maps, target)?)
 }
 
 // The path of a file of the cache that the target stands for.
@@ -93,11 +74,8 @@ fn find_in_cache<'a>(target: &[u8], cache: Option<&'a [u8]>) -> Result<Part<'a>,
     ensures answer { CacheSays target.now (option_map (λ x. x.now) cache.entry) (cache_found result) }
     ensures part { IfOk result (λ p. PartOfSome (option_map (λ x. x.now) cache.entry) p.place p.bytes.now) }
 {
-    let Some(cache) = cache else {
-        return Err(TargetFault::CacheUnreadable);
-    };
-    match LdSoCache::parse(cache)?.resolve(target) {
-        Some(path) => Ok(path),
-        None => Err(TargetFault::InvalidTarget),
-    }
+    let cache = cache.ok_or(TargetFault::CacheUnreadable)?;
+    LdSoCache::parse(cache)?
+        .resolve(target)
+        .ok_or(TargetFault::InvalidTarget)
 }

@@ -1,11 +1,12 @@
 -- The first word of a text, by how much white space and how much of a word it starts with. Assumes nothing.
-use Rattle.std.proofs.Common.{◌≡◌, ℕ, ◌+◌, ◌-◌, ◌<◌, List, ◌++◌, length, get_or, take, drop, sym, refl, ap, ◌∙◌, subst, arith}
+use Rattle.std.proofs.Common.{◌≡◌, ℕ, ◌+◌, ◌<◌, List, ◌++◌, length, get_or, take, drop, sym, refl, ap, ◌∙◌, subst, arith}
 use Rattle.std.specs.List.{prefix_len}
-use Rattle.std.proofs.lemmas.List.{append_assoc, length-append, length-take-le, length-drop, get_or_append_left, get_or-take, get_or-drop, take-append-drop, take_at, drop_at}
+use Rattle.std.proofs.lemmas.List.{length-take-le, length-drop, get_or_append_left, get_or-take, get_or-drop, take-append-drop, take_at, drop_at}
 use Rattle.std.proofs.lemmas.List.Sums.{prefix_len-le-length}
 use Rattle.std.proofs.lemmas.Bool.{not_from_true, not-true, not-false}
 use Rattle.byte_parts.specs.Words.{white, dark, FirstWord}
-use Rattle.byte_parts.proofs.Runs.{leading_yes, leading_no, leading_front}
+use Rattle.byte_parts.proofs.Runs.{leading_front}
+use Rattle.std.proofs.lemmas.List.Sums.{prefix_len_passes, prefix_len_stops}
 
 -- the text from its first word on
 abbrev pub onward : List ℕ → List ℕ
@@ -26,13 +27,13 @@ word_there text h =
     record {
       pad = take s text;
       shape = sym (ap (λ l. take s text ++ l) (take-append-drop n (onward text)) ∙ take-append-drop s text);
-      padded = λ k l. ap white (get_or-take s text k 0 (omega arith)) ∙ leading_yes white text k 0 (omega arith);
+      padded = λ k l. ap white (get_or-take s text k 0 (omega arith)) ∙ prefix_len_passes white text k 0 (omega arith);
       some = omega arith;
-      word = λ k l. ap dark (get_or-take n (onward text) k 0 (omega arith)) ∙ leading_yes dark (onward text) k 0 (omega arith);
+      word = λ k l. ap dark (get_or-take n (onward text) k 0 (omega arith)) ∙ prefix_len_passes dark (onward text) k 0 (omega arith);
       ends = λ l.
           let left = length-drop n (onward text) in
           let there : n + 0 ≡ n = omega arith in
-          not-false _ (ap dark (get_or-drop n (onward text) 0 0 ∙ ap (λ i. get_or (onward text) i 0) there) ∙ leading_no dark (onward text) 0 (omega arith));
+          not-false _ (ap dark (get_or-drop n (onward text) 0 0 ∙ ap (λ i. get_or (onward text) i 0) there) ∙ prefix_len_stops dark (onward text) 0 (omega arith));
     }
 
 -- the same, at what the word and the rest were taken from
@@ -67,14 +68,6 @@ module _ {text w rest : List ℕ} (h : FirstWord text w rest) where
 
   pub word_rest : rest ≡ drop (word_size text) (onward text)
   word_rest = sym (ap (λ n. drop n (onward text)) word_size_is ∙ ap (drop (length w)) onward_is ∙ drop_at w rest _ refl)
-
-  -- the rest is an end of the text
-  pub rest_end : rest ≡ drop (length text - length rest) text
-  rest_end =
-      let whole = ap length h.shape ∙ length-append h.pad (w ++ rest) in
-      let parts = length-append w rest in
-      let place : length text - length rest ≡ length (h.pad ++ w) = omega (arith, length-append h.pad w) in
-      sym (ap (λ n. drop n text) place ∙ ap (drop (length (h.pad ++ w))) (h.shape ∙ sym (append_assoc h.pad w rest)) ∙ drop_at (h.pad ++ w) rest _ refl)
 
 -- a text has one first word, and one rest after it
 pub one_word : {text w rest : List ℕ} {v left : List ℕ} → FirstWord text w rest → FirstWord text v left → (w ≡ v) × (rest ≡ left)

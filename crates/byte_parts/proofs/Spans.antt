@@ -1,14 +1,11 @@
 -- What a stretch that is there says, and when it is there. Assumes nothing.
 use Rattle.std.proofs.Common.{◌≡◌, ℕ, ◌+◌, ◌<◌, ◌≤◌, leb, List, length, take, drop, Some, None, ⊎_elim, arith}
-use Rattle.std.proofs.lemmas.Bool.{cases_Bool, cond-true, cond-false, leb-true, leb-false, le-leb, lt-leb}
+use Rattle.std.proofs.lemmas.Bool.{cases_Bool, cond-true, cond-false, leb-true, leb-false, le-leb}
 use Rattle.byte_parts.specs.Spans.{stretch}
 
 module _ {X : Type 0} (xs : List X) (place len : ℕ) where
   pub stretch_there : place + len ≤ length xs → stretch xs place len ≡ Some (take len (drop place xs))
   stretch_there h = cond-true (leb (place + len) (length xs)) _ _ (le-leb _ _ h)
-
-  pub stretch_gone : length xs < place + len → stretch xs place len ≡ None
-  stretch_gone h = cond-false (leb (place + len) (length xs)) _ _ (lt-leb _ _ h)
 
   -- a stretch that is there lies inside, and is what stands there
   pub stretch_is : (r : List X) → Some r ≡ stretch xs place len → (place + len ≤ length xs) × (r ≡ take len (drop place xs))

@@ -1,7 +1,7 @@
 -- The string at a place as an answer: what stands there, or none where no zero byte follows. Assumes nothing.
-use Rattle.std.proofs.Common.{◌≡◌, ℕ, zero, suc, ◌+◌, ◌<◌, true, eqb, leb, List, [], ◌∷◌, ◌++◌, length, get_or, take, drop, Some, None, Option, sym, refl, ap, ◌∙◌, subst, ⊎_elim, arith}
-use Rattle.std.specs.Option.{option_map}
-use Rattle.std.proofs.lemmas.Bool.{and_from, and_parts, cases_eq, eq-eqb, le-leb, ne_eqb, cond-true, cond-false}
+use Rattle.std.proofs.Common.{◌≡◌, ℕ, zero, suc, ◌+◌, ◌<◌, Bool, true, false, not, eqb, leb, List, [], ◌∷◌, ◌++◌, length, get_or, take, drop, Some, None, Option, sym, refl, ap, ◌∙◌, subst, ⊎_elim, arith}
+use Rattle.std.specs.Option.{MatchOption, is_some, option_map}
+use Rattle.std.proofs.lemmas.Bool.{false≢true, and_from, and_parts, cases_eq, eq-eqb, le-leb, ne_eqb, cond-true, cond-false}
 use Rattle.std.proofs.lemmas.Slice.Eq.{bytes_eq-Decides}
 use Rattle.std.proofs.lemmas.List.{get_or-drop, get_or-take, length-drop}
 use Rattle.byte_parts.specs.Places.{First, Free}
@@ -94,3 +94,10 @@ module _ (xs text : List ℕ) (place : ℕ) where
       }
       in
       string_in_is (subst (StringAt xs place) same (string_here xs place (length text) first))
+
+  -- the text is the string exactly where it has no zero byte of its own
+  pub is_none_answers : (zero : Option ℕ) (r : Bool) → is_some zero ≡ not r → MatchOption zero (Free 0 text) (First 0 text) → place + length text < length xs → get_or xs (place + length text) 0 ≡ 0 → stands xs place text ≡ true → (r ≡ true → string_in xs place ≡ Some text) × (string_in xs place ≡ Some text → r ≡ true)
+  is_none_answers None true e free fits ended there = (λ _. is_found fits ended there free, λ _. refl)
+  is_none_answers None false e free fits ended there = absurd (false≢true e)
+  is_none_answers (Some i) true e first fits ended there = absurd (false≢true (sym e))
+  is_none_answers (Some i) false e first fits ended there = (λ n. absurd (false≢true n), λ n. absurd (is_free n i first))

@@ -1,6 +1,5 @@
 pub mod Cut
 pub mod Fields
-pub mod Firsts
 pub mod Numbers
 pub mod Parts
 pub mod Places

@@ -1,6 +1,5 @@
 // Where a byte stands in a slice.
 ghost use Rattle.std.specs.Prelude.{◌≡◌, length, MatchOption};
-ghost use Rattle.std.specs.Str.{bytes_eq};
 ghost use Rattle.byte_parts.specs.Places.{Lacks, First, Last};
 ghost use Rattle.byte_parts.specs.Spans.{stands};
 
@@ -10,24 +9,15 @@ use crate::span::{Span, part};
 pub fn find_byte(bytes: &[u8], b: u8) -> Option<usize>
     ensures cases { MatchOption result (Lacks b bytes.now (length bytes.now)) (First b bytes.now) }
 {
-    for (i, x) in bytes.iter().enumerate() {
-        if *x == b {
-            return Some(i);
-        }
-    }
-    None
+    bytes.iter().position(|x| *x == b)
 }
 
+// A function for each direction: std has them as two methods.
 /// The last place of `b` in `bytes`, or none where it does not stand there.
 pub fn find_last_byte(bytes: &[u8], b: u8) -> Option<usize>
     ensures cases { MatchOption result (Lacks b bytes.now (length bytes.now)) (Last b bytes.now) }
 {
-    for i in (0..bytes.len()).rev() {
-        if bytes[i] == b {
-            return Some(i);
-        }
-    }
-    None
+    bytes.iter().rposition(|x| *x == b)
 }
 
 /// Whether `text` stands in `bytes` from `place` on.
@@ -36,14 +26,7 @@ pub fn stands_at(bytes: &[u8], place: usize, text: &[u8]) -> bool
 {
     let len = text.len();
     match part(bytes, Span { place, len }) {
-        Some(there) => same(there, text),
+        Some(there) => there == text,
         None => false,
     }
-}
-
-/// Whether two texts are the same.
-pub fn same(one: &[u8], other: &[u8]) -> bool
-    ensures value { result ≡ bytes_eq one.now other.now }
-{
-    one == other
 }

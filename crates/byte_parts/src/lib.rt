@@ -5,5 +5,6 @@ pub mod fields;
 pub mod find;
 pub mod number;
 pub mod part;
+pub mod refusal;
 pub mod span;
 pub mod words;

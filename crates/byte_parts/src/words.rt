@@ -12,6 +12,7 @@ pub struct Word<'a> {
     pub rest: &'a [u8],
 }
 
+// The bound stands in each contract, and in no type: a count is a plain number to its callers.
 /// How many white bytes `text` starts with.
 pub fn leading_white(text: &[u8]) -> usize
     ensures value { result ≡ prefix_len white text.now }
@@ -33,11 +34,9 @@ fn word_len(text: &[u8]) -> usize
     ensures value { result ≡ prefix_len dark text.now }
     ensures bound { result ≤ length text.now }
 {
-    let mut n = 0;
-    while n < text.len() && !text[n].is_ascii_whitespace() {
-        n += 1;
-    }
-    n
+    text.iter()
+        .position(|byte| byte.is_ascii_whitespace())
+        .unwrap_or(text.len())
 }
 
 /// The first word of `text` and what follows it, or none where all of `text` is white.

@@ -1,9 +1,9 @@
 // C-callable functions over the library, on numbers and byte slices. A slice is passed as a pointer and then a length.
 #![tactic(auto)]
 
-ghost use Rattle.std.specs.Prelude.{◌≡◌, not, MatchResult, ◌==◌};
+ghost use Rattle.std.specs.Prelude.{◌≡◌, ℕ, not, MatchResult, ◌==◌};
 ghost use Rattle.location.specs.Translation.{translated};
-ghost use Rattle.std.specs.Option.{option_map};
+ghost use Rattle.std.specs.Option.{option_map, unwrap_or};
 ghost use Rattle.attach_target.specs.Faults.{target_refusal};
 ghost use Rattle.attach_target.specs.Scopes.{uses_maps};
 ghost use Rattle.attach_target.specs.Targets.{Answer, Resolves};
@@ -14,6 +14,7 @@ use attach_target::fault::TargetFault;
 use attach_target::scope::UProbeScope;
 use attach_target::target::{Target, resolve_attach_target};
 use byte_parts::part::Part;
+use byte_parts::refusal::Fault;
 use ld_so_cache::cache::LdSoCache;
 use ld_so_cache::fault::CacheFault;
 use location::{Address, FileOffset, from_virtual_address};
@@ -55,7 +56,7 @@ pub extern "C" fn uprobe_cache_check(cache: &[u8], entries: &mut u32, entry: &mu
             0
         }
         Err(fault) => {
-            *entry = entry_of(fault, *entry);
+            *entry = entry_of(fault).unwrap_or(*entry);
             fault.refusal()
         }
     }
@@ -93,8 +94,9 @@ pub extern "C" fn uprobe_target<'a>(
             0
         }
         Err(fault) => {
-            *first = first_value(fault, *first);
-            *second = second_value(fault, *second);
+            let told = values_of(fault);
+            *first = told.first.unwrap_or(*first);
+            *second = told.second.unwrap_or(*second);
             fault.refusal()
         }
     }
@@ -139,35 +141,36 @@ fn path_of(found: Target<'_>) -> Part<'_>
     }
 }
 
-// The entry's number that a fault of a cache carries, else `old`.
-fn entry_of(fault: CacheFault, old: u32) -> u32
-    ensures { result ≡ carried (cache_refusal fault) 0 old }
+// The entry's number that a fault of a cache carries.
+fn entry_of(fault: CacheFault) -> Option<u32>
+    ensures { (old : ℕ) → unwrap_or result old ≡ carried (cache_refusal fault) 0 old }
 {
     match fault {
-        CacheFault::Truncated { entry } => entry,
-        CacheFault::InvalidHeader => old,
-        CacheFault::InvalidString { entry } => entry,
+        CacheFault::Truncated { entry } | CacheFault::InvalidString { entry } => Some(entry),
+        CacheFault::InvalidHeader => None,
     }
 }
 
-// The first value that a fault carries, else `old`.
-fn first_value(fault: TargetFault, old: u64) -> u64
-    ensures { result ≡ carried (target_refusal fault) 0 old }
-{
-    match fault {
-        TargetFault::Line(LineFault::ParseLine { place, .. }) => place as u64,
-        TargetFault::Cache(CacheFault::Truncated { entry }) => u64::from(entry),
-        TargetFault::Cache(CacheFault::InvalidString { entry }) => u64::from(entry),
-        _ => old,
-    }
+// The values that a fault carries.
+#[derive(Clone, Copy)]
+struct Values {
+    first: Option<u64>,
+    second: Option<u64>,
 }
 
-// The second value that a fault carries, else `old`.
-fn second_value(fault: TargetFault, old: u64) -> u64
-    ensures { result ≡ carried (target_refusal fault) 1 old }
+// What a fault carries.
+fn values_of(fault: TargetFault) -> Values
+    ensures first { (old : ℕ) → unwrap_or result.first old ≡ carried (target_refusal fault) 0 old }
+    ensures second { (old : ℕ) → unwrap_or result.second old ≡ carried (target_refusal fault) 1 old }
 {
-    match fault {
-        TargetFault::Line(LineFault::ParseLine { len, .. }) => len as u64,
-        _ => old,
-    }
+    let (first, second) = match fault {
+        TargetFault::Line(LineFault::ParseLine { place, len }) => {
+            (Some(place as u64), Some(len as u64))
+        }
+        TargetFault::Cache(fault) => (entry_of(fault).map(u64::from), None),
+        TargetFault::MapsUnreadable | TargetFault::CacheUnreadable | TargetFault::InvalidTarget => (
+            None, None,
+        ),
+    };
+    Values { first, second }
 }

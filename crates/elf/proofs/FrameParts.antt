@@ -1,11 +1,10 @@
 -- An image that is alike wherever an image is read has the same layout. Assumes nothing.
 use Rattle.std.proofs.Common.{◌≡◌, ℕ, zero, suc, ◌+◌, ◌-◌, ◌*◌, ◌/◌, ◌<◌, ◌≤◌, true, cond, ◌&&◌, ◌||◌, eqb, ltb, leb, ◌⊎◌, List, [], map, length, take, Some, None, Option, sym, refl, ap, ◌∙◌, subst, inl, inr, arith}
-use Rattle.std.specs.List.{range_with_len}
+use Rattle.std.specs.List.{find, range_with_len}
 use Rattle.std.specs.Option.{option_map}
 use Rattle.std.specs.Str.{bytes_eq}
-use Rattle.std.proofs.lemmas.Bool.{and_parts, eqb-true, ltb-true}
+use Rattle.std.proofs.lemmas.Bool.{and_parts, ltb-true}
 use Rattle.byte_parts.specs.Fields.{bytes_in, little_endian, string_in, strings_end}
-use Rattle.byte_parts.specs.Firsts.{first_with}
 use Rattle.byte_parts.specs.declared.span.Span.{Span}
 use Rattle.elf.specs.Frames.{Alike, HasSymbols, ReadSection, SamePart, debuglink, e_shentsize, e_shnum, e_shoff, e_shstrndx, e_type, headers, identification, names, notes, section, strings}
 use Rattle.elf.specs.Headers.{header_of, kind_named}
@@ -21,6 +20,10 @@ use Rattle.elf.specs.declared.section.SectionHeader.{SectionHeader}
 use Rattle.elf.proofs.Agreements.{same_ask, same_cond, same_counted, same_number, same_stretch, same_within}
 use Rattle.elf.proofs.Insides.{header_inside, row_within}
 use Rattle.elf.proofs.Numbering.{HasNumber, first_number, numbered_inv}
+use Rattle.elf.specs.Kinds.{same_kind}
+use Rattle.elf.specs.declared.kind.SectionKind.{SectionKind}
+use Rattle.elf.specs.declared.kind.SectionKind.TheVariants.{PlainSymbols, Notes, NoBits, DynamicSymbols}
+use Rattle.elf.proofs.SectionKinds.{kind-true}
 
 -- a header by what is read for it: the length, the identification, and the fields
 header_by : Places → ℕ → List ℕ → ℕ → ℕ → ℕ → ℕ → ℕ → Option Header
@@ -53,7 +56,7 @@ module _ (p : Places) (xs ys : List ℕ) (alike : Alike p xs ys) where
   -- whether a section is inside depends on the length only
   same_occupied : (s : SectionHeader) → occupied ys s ≡ occupied xs s
   same_occupied s =
-      ap (λ n. cond (eqb s.kind 8) (Some (record { place = 0; len = 0 })) (cond (leb (s.offset + s.size) n) (Some (record { place = s.offset; len = s.size })) None)) alike.long
+      ap (λ n. cond (same_kind s.kind NoBits) (Some (record { place = 0; len = 0 })) (cond (leb (s.offset + s.size) n) (Some (record { place = s.offset; len = s.size })) None)) alike.long
 
   module _ (h : Header) (there : header_of p xs ≡ Some h) where
     inside : Inside p xs h.sections
@@ -111,34 +114,34 @@ module _ (p : Places) (xs ys : List ℕ) (alike : Alike p xs ys) where
         (λ span q. ap (λ bs. Some (record { place = entries.place; count = entries.len / p.symbol_size - 1; strings = span; readable = strings_end bs })) (same_strings n s at has linked is span q)))))
 
     -- and so is the first table of a kind
-    module _ (kind : ℕ) (either : (kind ≡ 2) ⊎ (kind ≡ 11)) where
-      pub has_symbols : (n : ℕ) (s : SectionHeader) → HasNumber p xs h.sections n s → eqb s.kind kind ≡ true → HasSymbols p xs h n
+    module _ (kind : SectionKind) (either : (kind ≡ PlainSymbols) ⊎ (kind ≡ DynamicSymbols)) where
+      pub has_symbols : (n : ℕ) (s : SectionHeader) → HasNumber p xs h.sections n s → same_kind s.kind kind ≡ true → HasSymbols p xs h n
       has_symbols n s at test =
-          let is : (nth_section p xs h.sections n).kind ≡ kind = ap (λ x. x.kind) (sym at.2) ∙ eqb-true s.kind kind test in
-          subst (λ k. (k ≡ 2) ⊎ (k ≡ 11)) (sym is) either
+          let is : (nth_section p xs h.sections n).kind ≡ kind = ap (λ x. x.kind) (sym at.2) ∙ kind-true s.kind kind test in
+          subst (λ k. (k ≡ PlainSymbols) ⊎ (k ≡ DynamicSymbols)) (sym is) either
 
       same_table : symbol_table p ys h.sections kind ≡ symbol_table p xs h.sections kind
       same_table =
-          ap (λ ss. table_of p ys h.sections (first_with (λ s. eqb s.kind kind) ss)) same_sections
-          ∙ of (first_with (λ s. eqb s.kind kind) (sections p xs h.sections)) refl
+          ap (λ ss. table_of p ys h.sections (find (λ s. same_kind s.kind kind) ss)) same_sections
+          ∙ of (find (λ s. same_kind s.kind kind) (sections p xs h.sections)) refl
         where
-          of : (o : Option SectionHeader) → first_with (λ s. eqb s.kind kind) (sections p xs h.sections) ≡ o → table_of p ys h.sections o ≡ table_of p xs h.sections o
+          of : (o : Option SectionHeader) → find (λ s. same_kind s.kind kind) (sections p xs h.sections) ≡ o → table_of p ys h.sections o ≡ table_of p xs h.sections o
           of None e = refl
           of (Some s) e =
-              let first = first_number p xs h.sections (λ s. eqb s.kind kind) s e in
+              let first = first_number p xs h.sections (λ s. same_kind s.kind kind) s e in
               same_from first.0 s first.1 (has_symbols first.0 s first.1 first.2)
 
     -- the debuglink is the same
     same_link : (called : List ℕ) → names_of p xs h ≡ Some called → link_place p ys h.sections called ≡ link_place p xs h.sections called
     same_link called name =
-        ap (λ ss. link_found ys (first_with (is_debuglink called) ss)) same_sections
-        ∙ found (first_with (is_debuglink called) (sections p xs h.sections)) refl
+        ap (λ ss. link_found ys (find (is_debuglink called) ss)) same_sections
+        ∙ found (find (is_debuglink called) (sections p xs h.sections)) refl
       where
         of : (n : ℕ) (s : SectionHeader) → HasNumber p xs h.sections n s → ReadSection p xs h n → (o : Option Span) → occupied xs s ≡ o → link_of ys o ≡ link_of xs o
         of n s at read None is = refl
         of n s at read (Some e) is = ap (λ bs. link_named e (string_in bs 0)) (same_bytes n s at read e is)
 
-        found : (o : Option SectionHeader) → first_with (is_debuglink called) (sections p xs h.sections) ≡ o → link_found ys o ≡ link_found xs o
+        found : (o : Option SectionHeader) → find (is_debuglink called) (sections p xs h.sections) ≡ o → link_found ys o ≡ link_found xs o
         found None e = refl
         found (Some s) e =
             let first = first_number p xs h.sections (is_debuglink called) s e in
@@ -151,11 +154,11 @@ module _ (p : Places) (xs ys : List ℕ) (alike : Alike p xs ys) where
     same_notes a (suc n) some l =
         let rest = same_notes (a + 1) n (omega arith) (omega arith) in
         let s = nth_section p xs h.sections a in
-        ap (λ r. cond (eqb s.kind 7) (or_else (notes_at ys (occupied ys s)) r) r) rest
-        ∙ same_cond (eqb s.kind 7) _ _ _
+        ap (λ r. cond (same_kind s.kind Notes) (or_else (notes_at ys (occupied ys s)) r) r) rest
+        ∙ same_cond (same_kind s.kind Notes) _ _ _
         (λ test.
         ap (λ r. or_else r (notes_of xs (map (nth_section p xs h.sections) (range_with_len (a + 1) n))))
-        (ap (notes_at ys) (same_occupied s) ∙ of (notes a (eqb-true s.kind 7 test)) (occupied xs s) refl))
+        (ap (notes_at ys) (same_occupied s) ∙ of (notes a (kind-true s.kind Notes test)) (occupied xs s) refl))
       where
         of : ReadSection p xs h a → (o : Option Span) → occupied xs (nth_section p xs h.sections a) ≡ o → notes_at ys o ≡ notes_at xs o
         of read None is = refl
@@ -163,9 +166,9 @@ module _ (p : Places) (xs ys : List ℕ) (alike : Alike p xs ys) where
 
     same_laid : (called : List ℕ) → names_of p xs h ≡ Some called → laid p ys h called ≡ laid p xs h called
     same_laid called name =
-        same_ask _ (symbol_table p xs h.sections 11) _ _ (same_table 11 (inr refl))
+        same_ask _ (symbol_table p xs h.sections DynamicSymbols) _ _ (same_table DynamicSymbols (inr refl))
         (λ dynamic _.
-        same_ask _ (symbol_table p xs h.sections 2) _ _ (same_table 2 (inl refl))
+        same_ask _ (symbol_table p xs h.sections PlainSymbols) _ _ (same_table PlainSymbols (inl refl))
         (λ plain _.
         ap (λ link. Some (record { kind = h.kind; sections = h.sections; dynamic = dynamic; plain = plain; debuglink = link; build_id = build_id (notes_of ys (sections p ys h.sections)) })) (same_link called name)
         ∙ ap (λ r. Some (record { kind = h.kind; sections = h.sections; dynamic = dynamic; plain = plain; debuglink = link_place p xs h.sections called; build_id = build_id r }))

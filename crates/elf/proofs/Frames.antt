@@ -1,12 +1,11 @@
 -- No byte outside the parts that are read changes what an image means. Assumes nothing.
-use Rattle.std.proofs.Common.{◌≡◌, ℕ, zero, suc, ◌+◌, ◌-◌, ◌*◌, ◌/◌, ◌<◌, ◌≤◌, eqb, leb, ◌⊎◌, List, ◌++◌, map, length, drop, Some, None, Option, sym, refl, ap, ◌∙◌, subst, inl, inr, arith}
+use Rattle.std.proofs.Common.{◌≡◌, ℕ, zero, suc, ◌+◌, ◌-◌, ◌*◌, ◌/◌, ◌<◌, ◌≤◌, leb, ◌⊎◌, List, ◌++◌, map, length, drop, Some, None, Option, Ok, Err, Result, sym, refl, ap, ◌∙◌, subst, inl, inr, arith}
 use native.Mathlib.Nat.{mul-div-le}
-use Rattle.std.specs.List.{range_with_len}
+use Rattle.std.specs.List.{find, range_with_len}
 use Rattle.std.specs.Option.{option_map}
 use Rattle.std.proofs.lemmas.List.{length-take}
-use Rattle.std.proofs.lemmas.Bool.{cond_both, eqb-true}
+use Rattle.std.proofs.lemmas.Bool.{cond_both}
 use Rattle.byte_parts.specs.Fields.{string_in, strings_end}
-use Rattle.byte_parts.specs.Firsts.{first_with}
 use Rattle.byte_parts.specs.Spans.{span_of}
 use Rattle.byte_parts.specs.declared.span.Span.{Span}
 use Rattle.byte_parts.proofs.StringAnswers.{string_in_reads}
@@ -26,9 +25,8 @@ use Rattle.elf.specs.Symbols.{symbol_model}
 use Rattle.elf.specs.Tables.{listed, no_symbols, symbol_table, table_from, table_of, whole_entries}
 use Rattle.elf.specs.declared.header.Header.{Header}
 use Rattle.elf.specs.declared.layout.Layout.{Layout}
-use Rattle.elf.specs.declared.link.LinkPlace.TheVariants.{Malformed, Named}
-use Rattle.elf.specs.declared.notes.Notes.{Notes}
-use Rattle.elf.specs.declared.notes.Notes.TheVariants.{End, Malformed as Unread, Found}
+use Rattle.shelf.specs.declared.object.Debuglink.TheVariants.{Malformed, Named}
+use Rattle.elf.specs.declared.notes.MalformedNote.{MalformedNote}
 use Rattle.elf.specs.declared.places.Places.{Places}
 use Rattle.elf.specs.declared.section.SectionHeader.{SectionHeader}
 use Rattle.elf.specs.declared.symbol.SymbolTable.{SymbolTable}
@@ -37,6 +35,10 @@ use Rattle.elf.proofs.FrameParts.{has_symbols, same_bytes, same_layout, same_nth
 use Rattle.elf.proofs.Insides.{row_within}
 use Rattle.elf.proofs.NoteRuns.{Within, notes_within}
 use Rattle.elf.proofs.Numbering.{HasNumber, first_number}
+use Rattle.elf.specs.Kinds.{same_kind}
+use Rattle.elf.specs.declared.kind.SectionKind.{SectionKind}
+use Rattle.elf.specs.declared.kind.SectionKind.TheVariants.{PlainSymbols, Notes, DynamicSymbols}
+use Rattle.elf.proofs.SectionKinds.{kind-true}
 
 -- the bytes of a span are no more than it says
 span_length : (xs : List ℕ) (e : Span) → length (span_bytes xs e) ≤ e.len
@@ -58,29 +60,29 @@ module _ (p : Places) (xs ys : List ℕ) where
       ∙ ap (symbol_model p (span_bytes xs strings)) (same_within xs ys entries.place entries.len (p.symbol_size * n) p.symbol_size (omega arith) rows))
 
   -- a build id, where one is found, is the same
-  abbrev SameFound : Notes → Type 0
-  SameFound End = Unit {0}
-  SameFound Unread = Unit {0}
-  SameFound (Found s) = SamePart xs ys s.place s.len
+  abbrev SameFound : Result (Option Span) MalformedNote → Type 0
+  SameFound (Ok None) = Unit {0}
+  SameFound (Err e) = Unit {0}
+  SameFound (Ok (Some s)) = SamePart xs ys s.place s.len
 
-  same_placed : (e : Span) (n : ℕ) → n ≤ e.len → SamePart xs ys e.place e.len → (r : Notes) → Within n r → SameFound (placed e.place r)
-  same_placed e n l same End within = tt
-  same_placed e n l same Unread within = tt
-  same_placed e n l same (Found s) within = same_within xs ys e.place e.len s.place s.len (omega arith) same
+  same_placed : (e : Span) (n : ℕ) → n ≤ e.len → SamePart xs ys e.place e.len → (r : Result (Option Span) MalformedNote) → Within n r → SameFound (placed e.place r)
+  same_placed e n l same (Ok None) within = tt
+  same_placed e n l same (Err x) within = tt
+  same_placed e n l same (Ok (Some s)) within = same_within xs ys e.place e.len s.place s.len (omega arith) same
 
-  same_first : (r later : Notes) → SameFound r → SameFound later → SameFound (or_else r later)
-  same_first End later this rest = rest
-  same_first Unread later this rest = tt
-  same_first (Found s) later this rest = this
+  same_first : (r later : Result (Option Span) MalformedNote) → SameFound r → SameFound later → SameFound (or_else r later)
+  same_first (Ok None) later this rest = rest
+  same_first (Err e) later this rest = tt
+  same_first (Ok (Some s)) later this rest = this
 
-  same_id : length ys ≡ length xs → (r : Notes) → SameFound r → ask (build_id r) (span_of ys) ≡ ask (build_id r) (span_of xs)
-  same_id long End same = refl
-  same_id long Unread same = refl
-  same_id long (Found s) same = same_stretch xs ys s.place s.len long same
+  same_id : length ys ≡ length xs → (r : Result (Option Span) MalformedNote) → SameFound r → ask (build_id r) (span_of ys) ≡ ask (build_id r) (span_of xs)
+  same_id long (Ok None) same = refl
+  same_id long (Err e) same = refl
+  same_id long (Ok (Some s)) same = same_stretch xs ys s.place s.len long same
 
   module _ (alike : Alike p xs ys) (h : Header) (there : header_of p xs ≡ Some h) where
-    same_listed : (kind : ℕ) → (kind ≡ 2) ⊎ (kind ≡ 11) → (t : SymbolTable) → symbol_table p xs h.sections kind ≡ Some t → listed p ys t ≡ listed p xs t
-    same_listed kind either t e = of (first_with (λ s. eqb s.kind kind) (sections p xs h.sections)) refl (sym e)
+    same_listed : (kind : SectionKind) → (kind ≡ PlainSymbols) ⊎ (kind ≡ DynamicSymbols) → (t : SymbolTable) → symbol_table p xs h.sections kind ≡ Some t → listed p ys t ≡ listed p xs t
+    same_listed kind either t e = of (find (λ s. same_kind s.kind kind) (sections p xs h.sections)) refl (sym e)
       where
         from : (n : ℕ) (s : SectionHeader) → HasNumber p xs h.sections n s → HasSymbols p xs h n → Some t ≡ table_from p xs h.sections s → listed p ys t ≡ listed p xs t
         from n s at has q =
@@ -94,10 +96,10 @@ module _ (p : Places) (xs ys : List ℕ) where
             (same_bytes p xs ys alike h there n s at (symbols n has) entries.0 entries.1)
             (same_strings p xs ys alike h there n s at has linked.0 linked.1 strings.0 strings.1))
 
-        of : (o : Option SectionHeader) → first_with (λ s. eqb s.kind kind) (sections p xs h.sections) ≡ o → Some t ≡ table_of p xs h.sections o → listed p ys t ≡ listed p xs t
+        of : (o : Option SectionHeader) → find (λ s. same_kind s.kind kind) (sections p xs h.sections) ≡ o → Some t ≡ table_of p xs h.sections o → listed p ys t ≡ listed p xs t
         of None q is = subst (λ r. listed p ys r ≡ listed p xs r) (sym (some_same t no_symbols is)) refl
         of (Some s) q is =
-            let first = first_number p xs h.sections (λ x. eqb x.kind kind) s q in
+            let first = first_number p xs h.sections (λ x. same_kind x.kind kind) s q in
             from first.0 s first.1 (has_symbols p xs ys alike h there kind either first.0 s first.1 first.2) is
 
     same_models : section_models p ys h.sections ≡ section_models p xs h.sections
@@ -106,7 +108,7 @@ module _ (p : Places) (xs ys : List ℕ) where
 
     -- the name in the debuglink is the same
     same_target : (called : List ℕ) → names_of p xs h ≡ Some called → link_model ys (link_place p xs h.sections called) ≡ link_model xs (link_place p xs h.sections called)
-    same_target called name = found (first_with (is_debuglink called) (sections p xs h.sections)) refl
+    same_target called name = found (find (is_debuglink called) (sections p xs h.sections)) refl
       where
         stands : (e : Span) → SamePart xs ys e.place e.len → (o : Option (List ℕ)) → string_in (span_bytes xs e) 0 ≡ o → link_model ys (link_named e o) ≡ link_model xs (link_named e o)
         stands e same None is = refl
@@ -121,7 +123,7 @@ module _ (p : Places) (xs ys : List ℕ) where
         of n s at read None is = refl
         of n s at read (Some e) is = stands e (same_bytes p xs ys alike h there n s at read e is) _ refl
 
-        found : (o : Option SectionHeader) → first_with (is_debuglink called) (sections p xs h.sections) ≡ o → link_model ys (link_found xs o) ≡ link_model xs (link_found xs o)
+        found : (o : Option SectionHeader) → find (is_debuglink called) (sections p xs h.sections) ≡ o → link_model ys (link_found xs o) ≡ link_model xs (link_found xs o)
         found None e = refl
         found (Some s) e =
             let first = first_number p xs h.sections (is_debuglink called) s e in
@@ -134,8 +136,8 @@ module _ (p : Places) (xs ys : List ℕ) where
     same_found a (suc n) some l =
         let s = nth_section p xs h.sections a in
         let rest = same_found (a + 1) n (omega arith) (omega arith) in
-        cond_both (eqb s.kind 7) _ _ SameFound
-        (λ test. same_first (notes_at xs (occupied xs s)) _ (of (notes a (eqb-true s.kind 7 test)) (occupied xs s) refl) rest)
+        cond_both (same_kind s.kind Notes) _ _ SameFound
+        (λ test. same_first (notes_at xs (occupied xs s)) _ (of (notes a (kind-true s.kind Notes test)) (occupied xs s) refl) rest)
         (λ _. rest)
       where
         of : ReadSection p xs h a → (o : Option Span) → occupied xs (nth_section p xs h.sections a) ≡ o → SameFound (notes_at xs o)
@@ -151,13 +153,13 @@ module _ (p : Places) (xs ys : List ℕ) where
       let header = ask_some (header_of p xs) _ l (sym e) in
       let h = header.0 in
       let names = ask_some (names_of p xs h) _ l header.2 in
-      let dynamic = ask_some (symbol_table p xs h.sections 11) _ l names.2 in
-      let plain = ask_some (symbol_table p xs h.sections 2) _ l dynamic.2 in
+      let dynamic = ask_some (symbol_table p xs h.sections DynamicSymbols) _ l names.2 in
+      let plain = ask_some (symbol_table p xs h.sections PlainSymbols) _ l dynamic.2 in
       let same = some_same l _ plain.2 in
       subst (λ x. object_in p ys x ≡ object_in p xs x) (sym same)
       (same_fields h.kind
-      (ap (λ ss. ss ++ listed p ys plain.0) (same_listed alike h header.1 11 (inr refl) dynamic.0 dynamic.1)
-      ∙ ap (λ ss. listed p xs dynamic.0 ++ ss) (same_listed alike h header.1 2 (inl refl) plain.0 plain.1))
+      (ap (λ ss. ss ++ listed p ys plain.0) (same_listed alike h header.1 DynamicSymbols (inr refl) dynamic.0 dynamic.1)
+      ∙ ap (λ ss. listed p xs dynamic.0 ++ ss) (same_listed alike h header.1 PlainSymbols (inl refl) plain.0 plain.1))
       (same_models alike h header.1)
       (same_target alike h header.1 names.0 names.1)
       (same_id alike.long (notes_of xs (sections p xs h.sections)) (same_found alike h header.1 1 (h.sections.count - 1) (omega arith) (omega arith))))

@@ -1,9 +1,9 @@
 -- What lies where a layout says lies inside the image. Assumes nothing.
-use Rattle.std.proofs.Common.{◌≡◌, ℕ, ◌+◌, ◌-◌, ◌*◌, ◌/◌, ◌<◌, ◌≤◌, true, eqb, leb, List, length, Some, None, Option, sym, refl, ap, subst, ⊎_elim, mul-le-mul_left, mul-one, mul-add, arith}
+use Rattle.std.proofs.Common.{◌≡◌, ℕ, ◌+◌, ◌-◌, ◌*◌, ◌/◌, ◌<◌, ◌≤◌, true, leb, List, length, Some, None, Option, sym, refl, ap, subst, ⊎_elim, mul-le-mul_left, mul-one, mul-add, arith}
 use native.Mathlib.Nat.{mul-div-le}
 use Rattle.std.proofs.lemmas.Bool.{and_parts, cond_both, eqb-true, leb-true, or_cases}
 use Rattle.byte_parts.specs.Fields.{strings_end}
-use Rattle.byte_parts.specs.Firsts.{first_with}
+use Rattle.std.specs.List.{find}
 use Rattle.byte_parts.specs.declared.span.Span.{Span}
 use Rattle.shelf.proofs.Asks.{ask_some, cond_some, some_same}
 use Rattle.elf.specs.Bounds.{LaidInside, TableInside}
@@ -17,6 +17,8 @@ use Rattle.elf.specs.declared.layout.Layout.{Layout}
 use Rattle.elf.specs.declared.places.Places.{Places}
 use Rattle.elf.specs.declared.section.SectionHeader.{SectionHeader}
 use Rattle.elf.specs.declared.symbol.SymbolTable.{SymbolTable}
+use Rattle.elf.specs.Kinds.{same_kind}
+use Rattle.elf.specs.declared.kind.SectionKind.TheVariants.{PlainSymbols, NoBits, DynamicSymbols}
 
 -- row n of a table of so many rows ends where the table ends, at the latest
 pub row_within : (size n count : ℕ) → n < count → size * n + size ≤ size * count
@@ -48,7 +50,7 @@ module _ (p : Places) (xs : List ℕ) where
   -- a span that a section has lies inside
   pub occupied_inside : (s : SectionHeader) (e : Span) → Some e ≡ occupied xs s → e.place + e.len ≤ length xs
   occupied_inside s e h =
-      cond_both (eqb s.kind 8) _ _ (λ o. Some e ≡ o → e.place + e.len ≤ length xs)
+      cond_both (same_kind s.kind NoBits) _ _ (λ o. Some e ≡ o → e.place + e.len ≤ length xs)
       (λ _ q. let same = some_same e _ q in let a = ap (λ x. x.place) same in let b = ap (λ x. x.len) same in omega arith)
       (λ _ q.
       let there = cond_some (leb (s.offset + s.size) (length xs)) _ e q in
@@ -93,12 +95,12 @@ module _ (p : Places) (xs : List ℕ) where
       let header = ask_some (header_of p xs) _ l e in
       let h = header.0 in
       let names = ask_some (names_of p xs h) _ l header.2 in
-      let dynamic = ask_some (symbol_table p xs h.sections 11) _ l names.2 in
-      let plain = ask_some (symbol_table p xs h.sections 2) _ l dynamic.2 in
+      let dynamic = ask_some (symbol_table p xs h.sections DynamicSymbols) _ l names.2 in
+      let plain = ask_some (symbol_table p xs h.sections PlainSymbols) _ l dynamic.2 in
       let same = some_same l _ plain.2 in
       subst (LaidInside p xs) (sym same)
       (record {
         sections = header_inside h (sym header.1);
-        dynamic = of_inside h.sections (first_with (λ s. eqb s.kind 11) (sections p xs h.sections)) dynamic.0 (sym dynamic.1);
-        plain = of_inside h.sections (first_with (λ s. eqb s.kind 2) (sections p xs h.sections)) plain.0 (sym plain.1);
+        dynamic = of_inside h.sections (find (λ s. same_kind s.kind DynamicSymbols) (sections p xs h.sections)) dynamic.0 (sym dynamic.1);
+        plain = of_inside h.sections (find (λ s. same_kind s.kind PlainSymbols) (sections p xs h.sections)) plain.0 (sym plain.1);
       })

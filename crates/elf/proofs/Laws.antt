@@ -1,14 +1,13 @@
 -- The laws of an image. Assumes nothing.
-use Rattle.std.proofs.Common.{◌≡◌, ℕ, ◌+◌, ◌-◌, ◌*◌, ◌/◌, ◌%◌, ◌<◌, ◌≤◌, Bool, false, eqb, leb, ◌⊎◌, List, length, get_or, IfSome, Some, None, Option, sym, refl, ap, ◌∙◌, subst, inl, inr, ⊎_elim, arith}
+use Rattle.std.proofs.Common.{◌≡◌, ℕ, ◌+◌, ◌-◌, ◌*◌, ◌/◌, ◌%◌, ◌<◌, ◌≤◌, Bool, false, leb, ◌⊎◌, List, length, get_or, Some, None, Option, sym, refl, ap, ◌∙◌, subst, inl, inr, ⊎_elim, arith}
 use native.Mathlib.Nat.{div-add-mod}
-use Rattle.std.specs.List.{slice_get}
+use Rattle.std.specs.List.{find, slice_get}
 use Rattle.std.proofs.lemmas.List.{length-append, length-drop, length-take-le}
-use Rattle.std.proofs.lemmas.Bool.{and_parts, cases_eq, cond-false, eqb-false, eqb-true, ltb-true, ne_eqb}
+use Rattle.std.proofs.lemmas.Bool.{and_parts, cases_eq, cond-false, eqb-true, ltb-true}
 use Rattle.byte_parts.specs.Fields.{string_in}
-use Rattle.byte_parts.specs.Firsts.{first_with}
 use Rattle.byte_parts.specs.declared.span.Span.{Span}
 use Rattle.byte_parts.proofs.Counting.{nth_back, nth_counted, nth_front}
-use Rattle.byte_parts.proofs.Firsts.{first_with_gone}
+use Rattle.byte_parts.proofs.Firsts.{find_gone}
 use Rattle.byte_parts.proofs.Parted.{part_taken}
 use Rattle.byte_parts.proofs.StringAnswers.{string_in_is, string_in_reads}
 use Rattle.shelf.specs.Files.{SymbolModel}
@@ -28,6 +27,10 @@ use Rattle.elf.specs.declared.symbol.SymbolTable.{SymbolTable}
 use Rattle.elf.proofs.Insides.{header_inside, layout_inside}
 use Rattle.elf.proofs.Listings.{listed_length}
 use Rattle.elf.proofs.Numbering.{first_number, numbered_inv, sections_at, sections_length}
+use Rattle.elf.specs.Kinds.{same_kind}
+use Rattle.elf.specs.declared.kind.SectionKind.{SectionKind}
+use Rattle.elf.specs.declared.kind.SectionKind.TheVariants.{PlainSymbols, NoBits, DynamicSymbols}
+use Rattle.elf.proofs.SectionKinds.{kind-true, kind-false, kind-ne}
 
 -- the name that a symbol has stands where its entry says
 name_at : (strings : List ℕ) (place : ℕ) (o : Option (List ℕ)) → string_in strings place ≡ o → NameAt strings place o
@@ -67,9 +70,9 @@ module _ (p : Places) (xs : List ℕ) where
             in_table l.plain inside.plain i s h (sym (nth_back ds ps (l.dynamic.count + i) (omega arith) ∙ ap (slice_get ps) on) ∙ e);
       }
 
-  module _ (st : SectionTable) (inside : Inside p xs st) (kind : ℕ) where
+  module _ (st : SectionTable) (inside : Inside p xs st) (kind : SectionKind) where
     abbrev of_kind : SectionHeader → Bool
-    of_kind s = eqb s.kind kind
+    of_kind s = same_kind s.kind kind
 
     -- sections before a place are not of the kind
     none_of : (below : ℕ) → below ≤ st.count → ((k : ℕ) (d : SectionHeader) → k + 1 < below → of_kind (get_or (sections p xs st) k d) ≡ false) → NoneOf p xs st kind below
@@ -77,12 +80,12 @@ module _ (p : Places) (xs : List ℕ) where
         let back : m - 1 + 1 ≡ m = omega arith in
         let d = nth_section p xs st m in
         let other = all (m - 1) d (omega arith) in
-        eqb-false _ kind (sym (ap of_kind (sections_at p xs st m d some (omega arith))) ∙ other) e
+        kind-false _ kind (sym (ap of_kind (sections_at p xs st m d some (omega arith))) ∙ other) e
 
     -- where the section has no NOBITS, its bytes are as long as it says
-    has_bytes : (s : SectionHeader) (e : Span) → (s.kind ≡ 8 → ⊥) → occupied xs s ≡ Some e → e.len ≡ s.size
+    has_bytes : (s : SectionHeader) (e : Span) → (s.kind ≡ NoBits → ⊥) → occupied xs s ≡ Some e → e.len ≡ s.size
     has_bytes s e other h =
-        let bytes = cond_some (leb (s.offset + s.size) (length xs)) _ e (sym h ∙ cond-false (eqb s.kind 8) _ _ (ne_eqb s.kind 8 other)) in
+        let bytes = cond_some (leb (s.offset + s.size) (length xs)) _ e (sym h ∙ cond-false (same_kind s.kind NoBits) _ _ (kind-ne s.kind NoBits other)) in
         ap (λ x. x.len) (some_same e _ bytes.1)
 
     -- what a table that fits says of its section
@@ -101,7 +104,7 @@ module _ (p : Places) (xs : List ℕ) where
         inr (omega arith))
         (cases_eq (len / size) 0)
 
-    fitted : (s : SectionHeader) (t : SymbolTable) → (s.kind ≡ 8 → ⊥) → Some t ≡ table_from p xs st s → Fitted s t
+    fitted : (s : SectionHeader) (t : SymbolTable) → (s.kind ≡ NoBits → ⊥) → Some t ≡ table_from p xs st s → Fitted s t
     fitted s t other e =
         let whole = cond_some (whole_entries p s) _ t e in
         let tests = and_parts _ _ (and_parts _ _ whole.0).1 in
@@ -120,16 +123,16 @@ module _ (p : Places) (xs : List ℕ) where
               ∙ ap (occupied xs) (numbered_inv p xs st inside s.link linked.0 (sym linked.1)).2;
         }
 
-    found : (other : kind ≡ 8 → ⊥) (t : SymbolTable) (o : Option SectionHeader) → first_with of_kind (sections p xs st) ≡ o → Some t ≡ table_of p xs st o → FirstTable p xs st kind t
+    found : (other : kind ≡ NoBits → ⊥) (t : SymbolTable) (o : Option SectionHeader) → find of_kind (sections p xs st) ≡ o → Some t ≡ table_of p xs st o → FirstTable p xs st kind t
     found other t None e h =
         let long = sections_length p xs st in
-        inl (none_of st.count (omega arith) (λ k d l. first_with_gone of_kind (sections p xs st) e k d (omega arith)), ap (λ x. x.count) (some_same t no_symbols h))
+        inl (none_of st.count (omega arith) (λ k d l. find_gone of_kind (sections p xs st) e k d (omega arith)), ap (λ x. x.count) (some_same t no_symbols h))
     found other t (Some s) e h =
         let there = first_number p xs st of_kind s e in
         let n = there.0 in
         let number = there.1 in
         let same = number.2 in
-        let is_kind : s.kind ≡ kind = eqb-true s.kind kind there.2 in
+        let is_kind : s.kind ≡ kind = kind-true s.kind kind there.2 in
         let fits = subst (λ x. Fitted x t) same (fitted s t (λ q. other (sym is_kind ∙ q)) h) in
         inr (record {
           number = n;
@@ -143,8 +146,8 @@ module _ (p : Places) (xs : List ℕ) where
         })
 
     -- the table of a kind lies in the first section of the kind
-    pub first_table : (kind ≡ 8 → ⊥) → (t : SymbolTable) → Some t ≡ symbol_table p xs st kind → FirstTable p xs st kind t
-    first_table other t e = found other t (first_with of_kind (sections p xs st)) refl e
+    pub first_table : (kind ≡ NoBits → ⊥) → (t : SymbolTable) → Some t ≡ symbol_table p xs st kind → FirstTable p xs st kind t
+    first_table other t e = found other t (find of_kind (sections p xs st)) refl e
 
   -- a layout keeps the laws
   pub lays_out : (l : Layout) → Some l ≡ layout_of p xs → LaysOut p xs l
@@ -153,16 +156,12 @@ module _ (p : Places) (xs : List ℕ) where
       let header = ask_some (header_of p xs) _ l e in
       let h = header.0 in
       let names = ask_some (names_of p xs h) _ l header.2 in
-      let dynamic = ask_some (symbol_table p xs h.sections 11) _ l names.2 in
-      let plain = ask_some (symbol_table p xs h.sections 2) _ l dynamic.2 in
+      let dynamic = ask_some (symbol_table p xs h.sections DynamicSymbols) _ l names.2 in
+      let plain = ask_some (symbol_table p xs h.sections PlainSymbols) _ l dynamic.2 in
       let same = some_same l _ plain.2 in
       let rows = header_inside p xs h (sym header.1) in
       record {
-        dynamic = subst (λ x. FirstTable p xs x.sections 11 x.dynamic) (sym same) (first_table h.sections rows 11 (λ q. omega arith) dynamic.0 (sym dynamic.1));
-        plain = subst (λ x. FirstTable p xs x.sections 2 x.plain) (sym same) (first_table h.sections rows 2 (λ q. omega arith) plain.0 (sym plain.1));
+        dynamic = subst (λ x. FirstTable p xs x.sections DynamicSymbols x.dynamic) (sym same) (first_table h.sections rows DynamicSymbols (λ q. cc) dynamic.0 (sym dynamic.1));
+        plain = subst (λ x. FirstTable p xs x.sections PlainSymbols x.plain) (sym same) (first_table h.sections rows PlainSymbols (λ q. cc) plain.0 (sym plain.1));
         symbols = lists_entries l inside;
       }
-
-  pub laws_hold : (o : Option Layout) → o ≡ layout_of p xs → IfSome o (LaysOut p xs)
-  laws_hold None e = tt
-  laws_hold (Some l) e = lays_out l e

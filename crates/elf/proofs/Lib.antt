@@ -8,3 +8,4 @@ pub mod NoteRuns
 pub mod NoteSections
 pub mod Numbering
 pub mod Scans
+pub mod SectionKinds

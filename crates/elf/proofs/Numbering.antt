@@ -3,8 +3,8 @@ use Rattle.std.proofs.Common.{◌≡◌, ℕ, ◌+◌, ◌-◌, ◌*◌, ◌<◌
 use Rattle.std.specs.Option.{option_map}
 use Rattle.std.proofs.lemmas.List.FromFn.{length-map-range_with_len, get_or-map-range_with_len}
 use Rattle.std.proofs.lemmas.Bool.{and_from, and_parts, cases_lt, cond-true, lt-ltb, ltb-true}
-use Rattle.byte_parts.specs.Firsts.{first_with}
-use Rattle.byte_parts.proofs.Firsts.{first_with_inv}
+use Rattle.std.specs.List.{find}
+use Rattle.byte_parts.proofs.Firsts.{find_inv}
 use Rattle.byte_parts.proofs.Spans.{stretch_there}
 use Rattle.shelf.proofs.Asks.{cond_some}
 use Rattle.elf.specs.Sections.{Inside, nth_section, numbered, section_in, sections}
@@ -51,10 +51,10 @@ module _ (p : Places) (xs : List ℕ) (t : SectionTable) where
   sections_at n d some l = get_or-map-range_with_len (nth_section p xs t) 1 (t.count - 1) (n - 1) n d (omega arith) (omega arith)
 
   -- the first section that passes a test has a number, and none with a number below does
-  pub first_number : (test : SectionHeader → Bool) (s : SectionHeader) → first_with test (sections p xs t) ≡ Some s → (n : ℕ) × HasNumber n s × (test s ≡ true) × ((k : ℕ) (d : SectionHeader) → k + 1 < n → test (get_or (sections p xs t) k d) ≡ false)
+  pub first_number : (test : SectionHeader → Bool) (s : SectionHeader) → find test (sections p xs t) ≡ Some s → (n : ℕ) × HasNumber n s × (test s ≡ true) × ((k : ℕ) (d : SectionHeader) → k + 1 < n → test (get_or (sections p xs t) k d) ≡ false)
   first_number test s e =
       let long = sections_length in
-      let there = first_with_inv test (sections p xs t) s e in
+      let there = find_inv test (sections p xs t) s e in
       let n = there.0 + 1 in
       let back : n - 1 ≡ there.0 = omega arith in
       let low = there.1 in

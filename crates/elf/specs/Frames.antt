@@ -7,18 +7,19 @@ use Rattle.elf.specs.Layouts.{image_object, names_of}
 use Rattle.elf.specs.Links.{is_debuglink}
 use Rattle.elf.specs.Sections.{nth_section, occupied}
 use Rattle.elf.specs.declared.header.Header.{Header}
+use Rattle.elf.specs.declared.kind.SectionKind.TheVariants.{PlainSymbols, Notes, DynamicSymbols}
 use Rattle.elf.specs.declared.places.Places.{Places}
 
--- the section with this number has symbols: type 2 is SHT_SYMTAB, type 11 SHT_DYNSYM
+-- the section with this number has symbols, plain or dynamic ones
 abbrev pub HasSymbols : Places → List ℕ → Header → ℕ → Type 0
-HasSymbols p xs h n = ((nth_section p xs h.sections n).kind ≡ 2) ⊎ ((nth_section p xs h.sections n).kind ≡ 11)
+HasSymbols p xs h n = ((nth_section p xs h.sections n).kind ≡ PlainSymbols) ⊎ ((nth_section p xs h.sections n).kind ≡ DynamicSymbols)
 
 -- the numbers of the sections whose bytes are read: names of sections, symbols, the strings that those link to, notes, and the debuglink
 pub data ReadSection (p : Places) (xs : List ℕ) (h : Header) : ℕ → Type 0 where
   names : ReadSection p xs h h.names
   symbols : (n : ℕ) → HasSymbols p xs h n → ReadSection p xs h n
   strings : (n : ℕ) → 0 < n → n < h.sections.count → HasSymbols p xs h n → ReadSection p xs h (nth_section p xs h.sections n).link
-  notes : (n : ℕ) → (nth_section p xs h.sections n).kind ≡ 7 → ReadSection p xs h n
+  notes : (n : ℕ) → (nth_section p xs h.sections n).kind ≡ Notes → ReadSection p xs h n
   debuglink : (n : ℕ) (called : List ℕ) → names_of p xs h ≡ Some called → is_debuglink called (nth_section p xs h.sections n) ≡ true → ReadSection p xs h n
 
 -- the stretches of an image that are read, by place and length: the identification, e_type, four fields of the header, the section headers, and sections

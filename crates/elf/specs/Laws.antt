@@ -9,6 +9,8 @@ use Rattle.elf.specs.Sections.{nth_section, occupied, span_bytes}
 use Rattle.elf.specs.Symbols.{symbol_in}
 use Rattle.elf.specs.declared.header.SectionTable.{SectionTable}
 use Rattle.elf.specs.declared.layout.Layout.{Layout}
+use Rattle.elf.specs.declared.kind.SectionKind.{SectionKind}
+use Rattle.elf.specs.declared.kind.SectionKind.TheVariants.{PlainSymbols, DynamicSymbols}
 use Rattle.elf.specs.declared.places.Places.{Places}
 use Rattle.elf.specs.declared.symbol.SymbolTable.{SymbolTable}
 
@@ -32,11 +34,11 @@ pub record ListsEntries (p : Places) (xs : List ℕ) (l : Layout) (symbols : Lis
   pub plain : (i : ℕ) (s : SymbolModel) → i < l.plain.count → slice_get symbols (l.dynamic.count + i) ≡ Some s → FromEntry p xs l.plain (i + 1) s
 
 -- the sections with these numbers, from 1, are not of the kind
-abbrev pub NoneOf : Places → List ℕ → SectionTable → ℕ → ℕ → Type 0
+abbrev pub NoneOf : Places → List ℕ → SectionTable → SectionKind → ℕ → Type 0
 NoneOf p xs sections kind below = (m : ℕ) → 0 < m → m < below → (nth_section p xs sections m).kind ≢ kind
 
 -- a table lies in the first section of its kind: it has the entries that the section has room for, all of them whole, and the strings of the section that it links to
-pub record InSection (p : Places) (xs : List ℕ) (sections : SectionTable) (kind : ℕ) (t : SymbolTable) : Type 0 where
+pub record InSection (p : Places) (xs : List ℕ) (sections : SectionTable) (kind : SectionKind) (t : SymbolTable) : Type 0 where
   pub number : ℕ
   pub some : 0 < number
   pub within : number < sections.count
@@ -47,11 +49,11 @@ pub record InSection (p : Places) (xs : List ℕ) (sections : SectionTable) (kin
   pub linked : Some t.strings ≡ occupied xs (nth_section p xs sections (nth_section p xs sections number).link)
 
 -- where there is no section of the kind there are no symbols
-abbrev pub FirstTable : Places → List ℕ → SectionTable → ℕ → SymbolTable → Type 0
+abbrev pub FirstTable : Places → List ℕ → SectionTable → SectionKind → SymbolTable → Type 0
 FirstTable p xs sections kind t = (NoneOf p xs sections kind sections.count × (t.count ≡ 0)) ⊎ InSection p xs sections kind t
 
 -- the laws of a layout
 pub record LaysOut (p : Places) (xs : List ℕ) (l : Layout) : Type 0 where
-  pub dynamic : FirstTable p xs l.sections 11 l.dynamic
-  pub plain : FirstTable p xs l.sections 2 l.plain
+  pub dynamic : FirstTable p xs l.sections DynamicSymbols l.dynamic
+  pub plain : FirstTable p xs l.sections PlainSymbols l.plain
   pub symbols : ListsEntries p xs l (object_in p xs l).symbols

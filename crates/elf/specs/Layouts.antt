@@ -3,10 +3,12 @@ use Rattle.std.specs.Prelude.{ℕ, ◌-◌, cond, List, [], ◌++◌, map, Some,
 use Rattle.std.specs.List.{range_with_len}
 use Rattle.std.specs.Option.{option_map}
 use Rattle.byte_parts.specs.Spans.{span_of}
-use Rattle.shelf.specs.Files.{LinkModel, ObjectModel, absent, malformed, named}
+use Rattle.byte_parts.specs.declared.span.Span.{Span}
+use Rattle.shelf.specs.Files.{LinkModel, ObjectModel}
 use Rattle.shelf.specs.Questions.{ask}
 use Rattle.shelf.specs.declared.object.Section.{Section}
 use Rattle.elf.specs.Headers.{header_of}
+use Rattle.elf.specs.Kinds.{same_kind}
 use Rattle.elf.specs.Links.{link_place}
 use Rattle.elf.specs.Notes.{build_id, notes_of}
 use Rattle.elf.specs.Sections.{nth_section, numbered, occupied, sections}
@@ -14,8 +16,9 @@ use Rattle.elf.specs.Tables.{listed, symbol_table}
 use Rattle.elf.specs.declared.header.Header.{Header}
 use Rattle.elf.specs.declared.header.SectionTable.{SectionTable}
 use Rattle.elf.specs.declared.layout.Layout.{Layout}
-use Rattle.elf.specs.declared.link.LinkPlace.{LinkPlace}
-use Rattle.elf.specs.declared.link.LinkPlace.TheVariants.{Absent, Malformed, Named}
+use Rattle.shelf.specs.declared.object.Debuglink.{Debuglink}
+use Rattle.shelf.specs.declared.object.Debuglink.TheVariants.{Absent, Malformed, Named}
+use Rattle.elf.specs.declared.kind.SectionKind.TheVariants.{PlainSymbols, NoBits, DynamicSymbols}
 use Rattle.elf.specs.declared.places.Places.{Places}
 use Rattle.elf.specs.declared.section.SectionHeader.{SectionHeader}
 
@@ -26,8 +29,8 @@ names_of p xs h = cond (h.names == 0) (Some []) (ask (numbered p xs h.sections h
 -- the first dynamic and the first plain symbols, the debuglink, the build id
 abbrev pub laid : Places → List ℕ → Header → List ℕ → Option Layout
 laid p xs h names =
-    ask (symbol_table p xs h.sections 11) (λ dynamic.
-    ask (symbol_table p xs h.sections 2) (λ plain.
+    ask (symbol_table p xs h.sections DynamicSymbols) (λ dynamic.
+    ask (symbol_table p xs h.sections PlainSymbols) (λ plain.
     Some (record {
       kind = h.kind;
       sections = h.sections;
@@ -41,25 +44,25 @@ laid p xs h names =
 abbrev pub layout_of : Places → List ℕ → Option Layout
 layout_of p xs = ask (header_of p xs) (λ h. ask (names_of p xs h) (laid p xs h))
 
--- a section with its number; a section of type 8, SHT_NOBITS, takes no room in the file
+-- a section with its number; one of the kind NoBits takes no room in the file
 abbrev pub section_model : ℕ → SectionHeader → Section
 section_model n s =
     record {
       number = n;
       address = record { 0 = s.address };
-      offset = cond (s.kind == 8) None (Some (record { 0 = s.offset }));
+      offset = cond (same_kind s.kind NoBits) None (Some (record { 0 = s.offset }));
     }
 
 abbrev pub section_models : Places → List ℕ → SectionTable → List Section
 section_models p xs t = map (λ n. section_model n (nth_section p xs t n)) (range_with_len 1 (t.count - 1))
 
 abbrev pub named_so : Option (List ℕ) → LinkModel
-named_so None = malformed
-named_so (Some name) = named name
+named_so None = Malformed
+named_so (Some name) = Named name
 
-abbrev pub link_model : List ℕ → LinkPlace → LinkModel
-link_model xs Absent = absent
-link_model xs Malformed = malformed
+abbrev pub link_model : List ℕ → Debuglink Span → LinkModel
+link_model xs Absent = Absent
+link_model xs Malformed = Malformed
 link_model xs (Named s) = named_so (span_of xs s)
 
 -- what the parts say: dynamic symbols come before the others

@@ -1,6 +1,7 @@
 pub mod Bounds
 pub mod Classes
 pub mod Headers
+pub mod Kinds
 pub mod Sections
 pub mod Symbols
 pub mod Tables

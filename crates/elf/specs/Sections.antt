@@ -1,11 +1,13 @@
 -- The headers of sections, by the ELF specification's Shdr. Assumes nothing.
-use Rattle.std.specs.Prelude.{ℕ, ◌+◌, ◌-◌, ◌*◌, ◌<◌, ◌≤◌, cond, ◌&&◌, List, map, length, take, drop, Some, None, Option, ◌==◌, nat_le, nat_lt}
+use Rattle.std.specs.Prelude.{ℕ, ◌+◌, ◌-◌, ◌*◌, ◌<◌, ◌≤◌, cond, ◌&&◌, List, map, length, take, drop, Some, None, Option, nat_le, nat_lt}
 use Rattle.std.specs.List.{range_with_len}
 use Rattle.std.specs.Option.{option_map}
 use Rattle.byte_parts.specs.Fields.{little_endian}
 use Rattle.byte_parts.specs.Spans.{row_of}
 use Rattle.byte_parts.specs.declared.span.Span.{Span}
 use Rattle.elf.specs.Headers.{word_at}
+use Rattle.elf.specs.Kinds.{kind_of, same_kind}
+use Rattle.elf.specs.declared.kind.SectionKind.TheVariants.{NoBits}
 use Rattle.elf.specs.declared.header.SectionTable.{SectionTable}
 use Rattle.elf.specs.declared.places.Places.{Places}
 use Rattle.elf.specs.declared.section.SectionHeader.{SectionHeader}
@@ -15,7 +17,7 @@ abbrev pub section_in : Places → List ℕ → SectionHeader
 section_in p row =
     record {
       name = little_endian 4 row 0;
-      kind = little_endian 4 row 4;
+      kind = kind_of (little_endian 4 row 4);
       address = word_at p row p.sh_addr;
       offset = word_at p row p.sh_offset;
       size = word_at p row p.sh_size;
@@ -39,10 +41,10 @@ nth_section p xs t n = section_in p (table_row xs t.place p.section_size n)
 abbrev pub sections : Places → List ℕ → SectionTable → List SectionHeader
 sections p xs t = map (nth_section p xs t) (range_with_len 1 (t.count - 1))
 
--- where the bytes of a section lie, if they are inside the image; type 8 is SHT_NOBITS, which takes no room in the file
+-- where the bytes of a section lie, if they are inside the image; one of the kind NoBits takes no room in the file
 abbrev pub occupied : List ℕ → SectionHeader → Option Span
 occupied xs s =
-    cond (s.kind == 8) (Some (record { place = 0; len = 0 }))
+    cond (same_kind s.kind NoBits) (Some (record { place = 0; len = 0 }))
     (cond (nat_le (s.offset + s.size) (length xs)) (Some (record { place = s.offset; len = s.size })) None)
 
 -- the bytes of a span

@@ -1,13 +1,14 @@
 -- Symbol tables, by the ELF specification's sections of the types SHT_SYMTAB and SHT_DYNSYM. Assumes nothing.
-use Rattle.std.specs.Prelude.{ℕ, ◌-◌, ◌/◌, ◌%◌, Bool, cond, ◌&&◌, List, map, Some, None, Option, ◌==◌, nat_eq, nat_lt}
-use Rattle.std.specs.List.{range_with_len}
+use Rattle.std.specs.Prelude.{ℕ, ◌-◌, ◌/◌, ◌%◌, Bool, cond, ◌&&◌, List, map, Some, None, Option, ◌==◌, nat_lt}
+use Rattle.std.specs.List.{find, range_with_len}
 use Rattle.byte_parts.specs.Fields.{strings_end}
-use Rattle.byte_parts.specs.Firsts.{first_with}
 use Rattle.shelf.specs.Files.{SymbolModel}
 use Rattle.shelf.specs.Questions.{ask}
+use Rattle.elf.specs.Kinds.{same_kind}
 use Rattle.elf.specs.Sections.{numbered, occupied, sections, span_bytes, table_row}
 use Rattle.elf.specs.Symbols.{symbol_model}
 use Rattle.elf.specs.declared.header.SectionTable.{SectionTable}
+use Rattle.elf.specs.declared.kind.SectionKind.{SectionKind}
 use Rattle.elf.specs.declared.places.Places.{Places}
 use Rattle.elf.specs.declared.section.SectionHeader.{SectionHeader}
 use Rattle.elf.specs.declared.symbol.SymbolTable.{SymbolTable}
@@ -34,8 +35,8 @@ table_of p xs t None = Some no_symbols
 table_of p xs t (Some s) = table_from p xs t s
 
 -- the first table of a kind; none where it does not fit
-abbrev pub symbol_table : Places → List ℕ → SectionTable → ℕ → Option SymbolTable
-symbol_table p xs t kind = table_of p xs t (first_with (λ s. nat_eq s.kind kind) (sections p xs t))
+abbrev pub symbol_table : Places → List ℕ → SectionTable → SectionKind → Option SymbolTable
+symbol_table p xs t kind = table_of p xs t (find (λ s. same_kind s.kind kind) (sections p xs t))
 
 -- the symbols that a table lists: what each entry but entry 0 says, in the order of the table
 abbrev pub listed : Places → List ℕ → SymbolTable → List SymbolModel

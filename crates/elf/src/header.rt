@@ -2,8 +2,9 @@
 ghost use Rattle.std.specs.Prelude.{◌≡◌};
 ghost use Rattle.elf.specs.Headers.{header_of, is_image, kind_named, section_table, table_fits};
 
-use crate::places::Places;
-use byte_parts::fields::{number_at, u16_at};
+use crate::image::Image;
+use byte_parts::fields::{Field, number_at};
+use byte_parts::span::{Span, is_inside};
 use shelf::object::ObjectKind;
 
 /// The section headers of an image: rows from a place on.
@@ -37,57 +38,63 @@ fn object_kind(e_type: u16) -> ObjectKind
     }
 }
 
-// Whether the header is whole and says that this is a little-endian image of the class.
-fn is_elf(image: &[u8], places: Places) -> bool
-    ensures value { result ≡ is_image places image.now }
-{
-    image.len() >= places.header_size as usize
-        && image.starts_with(&[0x7f, b'E', b'L', b'F', places.class, 1, 1])
-}
+impl Image<'_> {
+    // Whether the header is whole and says that this is a little-endian image of the class.
+    fn is_elf(self) -> bool
+        ensures value { result ≡ is_image self.entry.places self.entry.bytes.now }
+    {
+        let places = self.places;
+        self.bytes.len() >= places.header_size as usize
+            && self
+                .bytes
+                .starts_with(&[0x7f, b'E', b'L', b'F', places.class, 1, 1])
+    }
 
-// Where the section headers are, and how many.
-fn read_table(image: &[u8], places: Places) -> SectionTable
-    ensures value { result ≡ section_table places image.now }
-{
-    let place = number_at(image, places.e_shoff, places.word) as usize;
-    if place == 0 {
-        return SectionTable { place, count: 0 };
+    // Where the section headers are, and how many.
+    fn read_table(self) -> SectionTable
+        ensures value { result ≡ section_table self.entry.places self.entry.bytes.now }
+    {
+        let places = self.places;
+        let place = number_at(self.bytes, places.e_shoff, places.word) as usize;
+        if place == 0 {
+            return SectionTable { place, count: 0 };
+        }
+        SectionTable {
+            place,
+            count: u16::field_at(self.bytes, places.e_shnum),
+        }
     }
-    SectionTable {
-        place,
-        count: u16_at(image, places.e_shnum),
-    }
-}
 
-// Whether there are no section headers, or those that there are have the right size and lie inside.
-fn fits_image(image: &[u8], places: Places, table: SectionTable) -> bool
-    ensures value { result ≡ table_fits places image.now table }
-{
-    if table.count == 0 {
-        return true;
+    // Whether there are no section headers, or those that there are have the right size and lie inside.
+    fn fits_table(self, table: SectionTable) -> bool
+        ensures value { result ≡ table_fits self.entry.places self.entry.bytes.now table }
+    {
+        let size = self.places.section_size;
+        let span = Span {
+            place: table.place,
+            len: size as usize * table.count as usize,
+        };
+        table.count == 0
+            || (u16::field_at(self.bytes, self.places.e_shentsize) == size as u16
+                && is_inside(span, self.bytes.len()))
     }
-    let place = table.place;
-    let len = places.section_size as usize * table.count as usize;
-    u16_at(image, places.e_shentsize) == places.section_size as u16
-        && place <= image.len()
-        && len <= image.len() - place
-}
 
-/// The header of an image of this class. None where the header is not whole, says that this is no
-/// little-endian image of the class, or has section headers of another size or outside the image.
-pub fn read_header(image: &[u8], places: Places) -> Option<Header>
-    ensures value { result ≡ header_of places image.now }
-{
-    if !is_elf(image, places) {
-        return None;
+    /// The header. None where it is not whole, says that this is no little-endian image of the
+    /// class, or has section headers of another size or outside the image.
+    pub fn read_header(self) -> Option<Header>
+        ensures value { result ≡ header_of self.entry.places self.entry.bytes.now }
+    {
+        if !self.is_elf() {
+            return None;
+        }
+        let sections = self.read_table();
+        if !self.fits_table(sections) {
+            return None;
+        }
+        Some(Header {
+            kind: object_kind(u16::field_at(self.bytes, 16)),
+            sections,
+            names: u16::field_at(self.bytes, self.places.e_shstrndx),
+        })
     }
-    let sections = read_table(image, places);
-    if !fits_image(image, places, sections) {
-        return None;
-    }
-    Some(Header {
-        kind: object_kind(u16_at(image, 16)),
-        sections,
-        names: u16_at(image, places.e_shstrndx),
-    })
 }

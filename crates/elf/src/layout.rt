@@ -3,23 +3,15 @@ ghost use Rattle.std.specs.Prelude.{◌≡◌, IfSome};
 ghost use Rattle.std.specs.Option.{option_map};
 ghost use Rattle.elf.specs.Frames.{OnlyParts};
 ghost use Rattle.elf.specs.Laws.{LaysOut};
-ghost use Rattle.elf.specs.Layouts.{laid, layout_of, names_of};
-ghost use Rattle.elf.specs.Sections.{Inside};
+ghost use Rattle.elf.specs.Layouts.{layout_of, names_of};
 
-use crate::header::{Header, SectionTable, read_header};
-use crate::link::{LinkPlace, find_link};
-use crate::notes::find_build_id;
-use crate::places::Places;
-use crate::section::{section_numbered, section_span};
+use crate::header::{Header, SectionTable};
+use crate::image::Image;
+use crate::kind::SectionKind;
+use crate::sections::Sections;
 use crate::symbol::SymbolTable;
-use crate::tables::first_table;
 use byte_parts::span::{Span, part};
-use shelf::object::ObjectKind;
-
-// The types of sections with symbols.
-const DYNSYM: u32 = 11;
-
-const SYMTAB: u32 = 2;
+use shelf::object::{Debuglink, ObjectKind};
 
 /// Where the parts of an image lie.
 #[derive(Clone, Copy)]
@@ -33,56 +25,45 @@ pub struct Layout {
     /// The first table of plain symbols.
     pub plain: SymbolTable,
     /// The name of the file with the debug symbols.
-    pub debuglink: LinkPlace,
+    pub debuglink: Debuglink<Span>,
     /// The build id.
     pub build_id: Option<Span>,
 }
 
-// The names of sections, or none where the section that has them does not fit.
-fn section_names(image: &[u8], places: Places, header: Header) -> Option<&[u8]>
-    ensures value { option_map (λ x. x.now) result ≡ names_of places image.now header }
-{
-    if header.names == 0 {
-        return Some(&image[0..0]);
+impl<'a> Image<'a> {
+    // The names of sections, or none where the section that has them does not fit.
+    fn section_names(self, header: Header) -> Option<&'a [u8]>
+        ensures value { option_map (λ x. x.now) result ≡ names_of self.entry.places self.entry.bytes.now header }
+    {
+        if header.names == 0 {
+            return Some(&self.bytes[0..0]);
+        }
+        let section = self.section_numbered(header.sections, header.names as u32)?;
+        let span = self.section_span(section)?;
+        part(self.bytes, span)
     }
-    let section = section_numbered(image, places, header.sections, header.names as u32)?;
-    let span = section_span(image, section)?;
-    part(image, span)
-}
 
-// Where the parts of an image lie, by its header and the names of its sections.
-fn lay_out(image: &[u8], places: Places, header: Header, names: &[u8]) -> Option<Layout>
-    requires { Inside places image.now header.sections }
-    ensures value { result ≡ laid places image.now header names.now }
-{
-    let sections = header.sections;
-    let dynamic = first_table(image, places, sections, DYNSYM)?;
-    let plain = first_table(image, places, sections, SYMTAB)?;
-    Some(Layout {
-        kind: header.kind,
-        sections,
-        dynamic,
-        plain,
-        debuglink: find_link(image, places, sections, names),
-        build_id: find_build_id(image, places, sections),
-    })
-}
-
-// The layout, step by step.
-fn find_layout(image: &[u8], places: Places) -> Option<Layout>
-    ensures value { result ≡ layout_of places image.now }
-{
-    let header = read_header(image, places)?;
-    let names = section_names(image, places, header)?;
-    lay_out(image, places, header, names)
-}
-
-/// Where the parts of an image of this class lie, or none where it is no object file: its header or
-/// its section headers, the names of its sections, a table of symbols or the strings of one do not fit.
-pub fn read_layout(image: &[u8], places: Places) -> Option<Layout>
-    ensures value { result ≡ layout_of places image.now }
-    ensures law { IfSome result (LaysOut places image.now) }
-    ensures frame { OnlyParts places image.now }
-{
-    find_layout(image, places)
+    /// Where the parts of the image lie, or none where it is no object file: its header or its
+    /// section headers, the names of its sections, a table of symbols or the strings of one do not fit.
+    #[tactic(auto, using(crate::proofs::Frames::only_parts))]
+    pub fn read_layout(self) -> Option<Layout>
+        ensures value { result ≡ layout_of self.entry.places self.entry.bytes.now }
+        ensures law { IfSome result (LaysOut self.entry.places self.entry.bytes.now) }
+        ensures frame { OnlyParts self.entry.places self.entry.bytes.now }
+    {
+        let header = self.read_header()?;
+        let names = self.section_names(header)?;
+        let sections = Sections {
+            image: self,
+            table: header.sections,
+        };
+        Some(Layout {
+            kind: header.kind,
+            sections: header.sections,
+            dynamic: sections.first_table(SectionKind::DynamicSymbols)?,
+            plain: sections.first_table(SectionKind::PlainSymbols)?,
+            debuglink: sections.debuglink(names),
+            build_id: sections.build_id(),
+        })
+    }
 }

@@ -2,11 +2,13 @@
 #![tactic(auto)]
 
 pub mod header;
+pub mod image;
+pub mod kind;
 pub mod layout;
-pub mod link;
+mod link;
 mod notes;
 pub mod places;
-mod search;
 pub mod section;
+pub mod sections;
 pub mod symbol;
 mod tables;

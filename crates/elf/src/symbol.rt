@@ -3,7 +3,7 @@ ghost use Rattle.std.specs.Prelude.{◌≡◌};
 ghost use Rattle.elf.specs.Symbols.{section_named, symbol_in};
 
 use crate::places::Places;
-use byte_parts::fields::{number_at, u16_at};
+use byte_parts::fields::{Field, number_at};
 use byte_parts::span::Span;
 use location::Address;
 use shelf::object::Symbol;
@@ -38,6 +38,6 @@ pub fn read_symbol(entry: &[u8], places: Places) -> Symbol
 {
     Symbol {
         address: Address(number_at(entry, places.st_value, places.word)),
-        section: section_named(u16_at(entry, places.st_shndx)),
+        section: section_named(u16::field_at(entry, places.st_shndx)),
     }
 }

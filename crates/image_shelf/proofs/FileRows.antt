@@ -1,17 +1,14 @@
 -- The files of an image shelf by their rows. Assumes nothing.
-use Rattle.std.proofs.Common.{◌≡◌, ℕ, List, map, length, get_or, Some, None, Option, sym, ap, ◌∙◌, ⊎_elim, arith, MatchOption}
+use Rattle.std.proofs.Common.{◌≡◌, ℕ, List, map, length, get_or, Some, None, sym, ap, ◌∙◌, ⊎_elim, arith}
 use mathlib.Core.Logic.{∥∥₁_elim}
 use base.Stored.{Coded-set}
 use Rattle.std.specs.Option.{option_map}
 use Rattle.std.specs.List.{slice_get}
-use Rattle.std.specs.Str.{bytes_eq}
 use Rattle.std.proofs.lemmas.Option.{slice_get-get_or, slice_get_past}
 use Rattle.std.proofs.lemmas.Bool.{cases_lt}
 use Rattle.byte_parts.specs.Spans.{read_of}
-use Rattle.byte_parts.proofs.Mapped.{first_place_map, nth_map}
-use Rattle.shelf.specs.Questions.{ask, object_of, opened}
-use Rattle.table.specs.Rows.{NoRow, FirstRow}
-use Rattle.table.proofs.Firsts.{found_is}
+use Rattle.byte_parts.proofs.Mapped.{nth_map}
+use Rattle.shelf.specs.Questions.{ask, object_of}
 use Rattle.elf.specs.Classes.{elf64}
 use Rattle.elf.specs.Layouts.{object_in}
 use Rattle.image_shelf.specs.Images.{AllLaid, Laid, file_in}
@@ -41,9 +38,3 @@ module _ (bytes : List ℕ) (rows : List ImageRow) where
       ap (option_map (object_in elf64 (read_of bytes row.image))) (ap (λ r. r.layout) laid)
       ∙ ap (λ o. ask (option_map (file_in bytes) o) (λ f. f.object)) e
       ∙ ap (λ o. ask o (λ f. f.object)) (sym (nth_map (file_in bytes) rows file))
-
-  -- the file with a path
-  pub file_listed : (path : List ℕ) (r : Option ℕ) → MatchOption r (NoRow (λ row. bytes_eq (read_of bytes row.path) path) rows) (FirstRow (λ row. bytes_eq (read_of bytes row.path) path) rows) → r ≡ opened (map (file_in bytes) rows) path
-  file_listed path r found =
-      found_is (λ row. bytes_eq (file_in bytes row).path path) rows r found
-      ∙ first_place_map (λ f. bytes_eq f.path path) (file_in bytes) rows

@@ -8,7 +8,7 @@ use Rattle.std.proofs.lemmas.Bool.{and_parts, cases_lt, cond-false, cond-true, l
 use Rattle.byte_parts.specs.Parts.{PartOf}
 use Rattle.byte_parts.specs.Spans.{inside, read_of}
 use Rattle.byte_parts.specs.declared.span.Span.{Span}
-use Rattle.byte_parts.proofs.Firsts.{first_place_gone}
+use Rattle.byte_parts.proofs.Firsts.{position_gone}
 use Rattle.byte_parts.proofs.Mapped.{nth_map}
 use Rattle.byte_parts.proofs.Parted.{part_taken}
 use Rattle.byte_parts.proofs.Spans.{stretch_there}
@@ -50,7 +50,7 @@ module _ (bytes : List ℕ) where
       (λ l.
       let there = slice_get-get_or rows i row l in
       let same : get_or rows i row ≡ row = cc in
-      sym (ap (outside (length bytes)) same) ∙ first_place_gone (outside (length bytes)) rows none i row l)
+      sym (ap (outside (length bytes)) same) ∙ position_gone (outside (length bytes)) rows none i row l)
       (λ past.
       let gone = slice_get_past rows i past in
       let z : ◌≡◌ {A = ℕ} 0 1 = cc in

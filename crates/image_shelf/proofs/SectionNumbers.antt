@@ -1,8 +1,7 @@
 -- The sections of an image by their numbers and by their places. Assumes nothing.
 use Rattle.std.proofs.Common.{◌≡◌, ℕ, ◌+◌, ◌-◌, ◌≤◌, Bool, eqb, List, Some, None, sym, refl, ap, ◌∙◌, ⊎_elim, arith}
-use Rattle.std.specs.List.{slice_get}
+use Rattle.std.specs.List.{find, slice_get}
 use Rattle.std.proofs.lemmas.Bool.{cases_eq, eq-eqb, ne_eqb}
-use Rattle.byte_parts.specs.Firsts.{first_with}
 use Rattle.elf.specs.Layouts.{section_model, section_models}
 use Rattle.elf.specs.Sections.{Inside, nth_section, numbered}
 use Rattle.elf.specs.declared.header.SectionTable.{SectionTable}
@@ -21,7 +20,7 @@ module _ (p : Places) (xs : List ℕ) (t : SectionTable) (inside : Inside p xs t
   has_number number s = eqb s.number number
 
   -- the number is that of no section
-  pub number_none : (number : ℕ) → None ≡ numbered p xs t number → first_with (has_number number) (section_models p xs t) ≡ None
+  pub number_none : (number : ℕ) → None ≡ numbered p xs t number → find (has_number number) (section_models p xs t) ≡ None
   number_none number e =
       scan_none model (has_number number) t.count
       (λ j some l.
@@ -29,7 +28,7 @@ module _ (p : Places) (xs : List ℕ) (t : SectionTable) (inside : Inside p xs t
       ⊎_elim (λ none. omega arith) (λ positive. let past = numbered_none p xs t inside number e (omega arith) in omega arith) (cases_eq number 0)))
 
   -- the section with the number
-  pub number_found : (number : ℕ) (s : SectionHeader) → Some s ≡ numbered p xs t number → first_with (has_number number) (section_models p xs t) ≡ Some (section_model number s)
+  pub number_found : (number : ℕ) (s : SectionHeader) → Some s ≡ numbered p xs t number → find (has_number number) (section_models p xs t) ≡ Some (section_model number s)
   number_found number s e =
       let there = numbered_inv p xs t inside number s e in
       scan_found model (has_number number) t.count number there.0 there.1 (eq-eqb number number refl) (λ j some l. ne_eqb j number (λ same. omega arith))

@@ -1,6 +1,6 @@
 -- What the rows of an image shelf mean. Assumes nothing.
 use Rattle.std.specs.Prelude.{◌≡◌, ℕ, ◌<◌, Bool, cond, not, ◌&&◌, List, [], map, length, is_some, Option, slice_index_or}
-use Rattle.byte_parts.specs.Firsts.{first_place}
+use Rattle.std.specs.List.{position}
 use Rattle.byte_parts.specs.Spans.{inside, read_of}
 use Rattle.shelf.specs.Files.{FileModel}
 use Rattle.elf.specs.Classes.{elf64}
@@ -28,7 +28,7 @@ outside long row = not (inside long row.path && inside long row.image)
 
 -- the first row that points outside
 abbrev pub first_outside : List ℕ → List ImageRow → Option ℕ
-first_outside bytes rows = first_place (outside (length bytes)) rows
+first_outside bytes rows = position (outside (length bytes)) rows
 
 -- the files that the rows list, or none where a row points outside
 abbrev pub image_files : List ℕ → List ImageRow → List FileModel

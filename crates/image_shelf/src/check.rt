@@ -1,25 +1,24 @@
 // Whether the rows of an image shelf point inside.
-ghost use Rattle.std.specs.Prelude.{◌≡◌};
+ghost use Rattle.std.specs.Prelude.{◌≡◌, position};
 ghost use Rattle.shelf.specs.Faults.{verdict};
 ghost use Rattle.image_shelf.specs.Images.{first_outside, outside};
 
 use crate::rows::ImageRow;
 use byte_parts::span::is_inside;
 use shelf::fault::ShelfFault;
-use table::find::find;
-use table::row::Row;
 
-// How long the bytes are.
-#[derive(Clone, Copy)]
-pub(crate) struct Extent(pub(crate) usize);
+// Whether a row reaches out of what is this long.
+fn is_outside(row: &ImageRow, length: usize) -> bool
+    ensures value { result ≡ outside length row.now }
+{
+    !(is_inside(row.path, length) && is_inside(row.image, length))
+}
 
-// A row is found by an extent that it reaches out of.
-impl Row<Extent> for ImageRow {
-    ghost has = { λ row extent. outside extent.0 row };
-
-    fn is(&self, key: &Extent) -> bool {
-        !(is_inside(self.path, key.0) && is_inside(self.image, key.0))
-    }
+// The first row that does.
+fn find_outside(rows: &[ImageRow], length: usize) -> Option<usize>
+    ensures value { result ≡ position (outside length) rows.now }
+{
+    rows.iter().position(|row| is_outside(row, length))
 }
 
 /// Whether each row points inside: its path and its image.
@@ -28,7 +27,7 @@ impl Row<Extent> for ImageRow {
 pub fn check(bytes: &[u8], rows: &[ImageRow]) -> Result<(), ShelfFault>
     ensures value { result ≡ verdict (first_outside bytes.now rows.now) }
 {
-    match find(rows, &Extent(bytes.len())) {
+    match find_outside(rows, bytes.len()) {
         Some(place) => Err(ShelfFault::RowOutside { place }),
         None => Ok(()),
     }

@@ -9,7 +9,8 @@ use crate::rows::ImageRow;
 pub struct ImageShelf<'a> {
     pub(crate) bytes: &'a [u8],
     pub(crate) rows: &'a [ImageRow],
-    // how many of the rows are files of the shelf: all, or none where one points outside
+    // how many of the rows are files of the shelf: all, or none where one points outside. A count
+    // beside all the rows, since what the lent rows hold is said of those that the shelf holds.
     pub(crate) files: usize,
     ghost within: { files ≤ length rows.now },
     ghost laid: { ∥ AllLaid bytes.now (take files rows.now) ∥₁ },

@@ -8,21 +8,15 @@ use crate::check::check;
 use crate::images::ImageShelf;
 use crate::rows::ImageRow;
 use byte_parts::span::part_or_empty;
-use elf::layout::read_layout;
-use elf::places::elf64_places;
+use elf::image::Image;
 
 // Reads each image, and keeps in its row where its parts lie.
 fn lay_out(bytes: &[u8], rows: &mut [ImageRow])
     ensures items { rows.new ≡ map (with_layout bytes.now) rows.old }
 {
-    for i in 0..rows.len() {
-        let row = rows[i];
-        let image = part_or_empty(bytes, row.image);
-        rows[i] = ImageRow {
-            path: row.path,
-            image: row.image,
-            layout: read_layout(image, elf64_places()),
-        };
+    for row in rows {
+        let image = Image::elf64(part_or_empty(bytes, row.image));
+        row.layout = image.read_layout();
     }
 }
 

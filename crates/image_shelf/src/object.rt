@@ -1,16 +1,13 @@
 // An image on a shelf that is an object file: its bytes, and where its parts lie.
-ghost use Rattle.std.specs.Prelude.{◌≡◌, length, IfSome};
-ghost use Rattle.std.specs.Option.{option_map};
-ghost use Rattle.std.specs.List.{slice_get};
-ghost use Rattle.byte_parts.specs.Fields.{strings_end};
-ghost use Rattle.shelf.specs.Questions.{link_answer, link_name};
-ghost use Rattle.image_shelf.specs.Entries.{entry_model};
-ghost use Rattle.image_shelf.specs.Objects.{LaidObject, object_model};
+ghost use Rattle.std.specs.Prelude.{◌≡◌, Some};
+ghost use Rattle.elf.specs.Classes.{elf64};
+ghost use Rattle.elf.specs.Layouts.{layout_of};
 
-use crate::entry::{Entry, table_entry};
+use crate::entry::Entry;
 use byte_parts::span::part;
+use elf::image::Image;
 use elf::layout::Layout;
-use elf::link::LinkPlace;
+use elf::sections::Sections;
 use shelf::object::Debuglink;
 
 // An image, and where its parts lie.
@@ -18,12 +15,19 @@ use shelf::object::Debuglink;
 pub(crate) struct ObjectImage<'a> {
     pub(crate) image: &'a [u8],
     pub(crate) layout: Layout,
+    ghost laid: { Some layout ≡ layout_of elf64 image.now },
 }
 
 impl<'a> ObjectImage<'a> {
+    ghost use Rattle.std.specs.Prelude.{length};
+    ghost use Rattle.std.specs.Option.{option_map};
+    ghost use Rattle.std.specs.List.{slice_get};
+    ghost use Rattle.shelf.specs.Questions.{link_answer, link_name};
+    ghost use Rattle.image_shelf.specs.Entries.{entry_model};
+    ghost use Rattle.image_shelf.specs.Objects.{object_model};
+
     // How many symbols there are.
     pub(crate) fn symbol_count(self) -> usize
-        requires { LaidObject self }
         ensures value { result ≡ length (object_model self.entry).symbols }
     {
         self.layout.dynamic.count + self.layout.plain.count
@@ -31,15 +35,25 @@ impl<'a> ObjectImage<'a> {
 
     // The symbol at a place: dynamic symbols come before the others.
     pub(crate) fn entry(self, at: usize) -> Option<Entry<'a>>
-        requires { LaidObject self }
         ensures value { option_map entry_model result ≡ slice_get (object_model self.entry).symbols at }
-        ensures readable { IfSome result (λ e. e.readable ≡ strings_end e.strings.now) }
     {
         let dynamic = self.layout.dynamic;
         if at < dynamic.count {
-            return table_entry(self.image, dynamic, at);
+            return Entry::in_table(self.image, dynamic, at);
         }
-        table_entry(self.image, self.layout.plain, at - dynamic.count)
+        Entry::in_table(self.image, self.layout.plain, at - dynamic.count)
+    }
+
+    // The sections.
+    pub(crate) fn sections(self) -> Sections<'a>
+        ensures bytes { result.image.bytes.now ≡ self.entry.image.now }
+        ensures places { result.image.places ≡ elf64 }
+        ensures table { result.table ≡ self.entry.layout.sections }
+    {
+        Sections {
+            image: Image::elf64(self.image),
+            table: self.layout.sections,
+        }
     }
 
     // How many sections there are.
@@ -50,14 +64,14 @@ impl<'a> ObjectImage<'a> {
     }
 
     // What the debuglink says.
-    pub(crate) fn debuglink(self) -> Debuglink
+    pub(crate) fn debuglink(self) -> Debuglink<usize>
         ensures value { result ≡ link_answer (object_model self.entry).debuglink }
     {
         match self.layout.debuglink {
-            LinkPlace::Absent => Debuglink::Absent,
-            LinkPlace::Malformed => Debuglink::Malformed,
-            LinkPlace::Named(span) => match part(self.image, span) {
-                Some(name) => Debuglink::Named { len: name.len() },
+            Debuglink::Absent => Debuglink::Absent,
+            Debuglink::Malformed => Debuglink::Malformed,
+            Debuglink::Named(span) => match part(self.image, span) {
+                Some(name) => Debuglink::Named(name.len()),
                 None => Debuglink::Malformed,
             },
         }
@@ -68,8 +82,8 @@ impl<'a> ObjectImage<'a> {
         ensures value { option_map (λ x. x.now) result ≡ link_name (object_model self.entry).debuglink }
     {
         match self.layout.debuglink {
-            LinkPlace::Named(span) => part(self.image, span),
-            LinkPlace::Absent | LinkPlace::Malformed => None,
+            Debuglink::Named(span) => part(self.image, span),
+            Debuglink::Absent | Debuglink::Malformed => None,
         }
     }
 
@@ -77,9 +91,6 @@ impl<'a> ObjectImage<'a> {
     pub(crate) fn build_id(self) -> Option<&'a [u8]>
         ensures value { option_map (λ x. x.now) result ≡ (object_model self.entry).build_id }
     {
-        match self.layout.build_id {
-            Some(span) => part(self.image, span),
-            None => None,
-        }
+        part(self.image, self.layout.build_id?)
     }
 }

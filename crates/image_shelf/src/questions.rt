@@ -16,24 +16,15 @@ impl<'a> Shelf for ImageShelf<'a> {
     }
 
     fn kind(&self, file: usize) -> Option<ObjectKind> {
-        match self.object(file) {
-            Some(object) => Some(object.layout.kind),
-            None => None,
-        }
+        Some(self.object(file)?.layout.kind)
     }
 
     fn symbol_count(&self, file: usize) -> Option<usize> {
-        match self.object(file) {
-            Some(object) => Some(object.symbol_count()),
-            None => None,
-        }
+        Some(self.object(file)?.symbol_count())
     }
 
     fn symbol(&self, file: usize, symbol: usize) -> Option<Symbol> {
-        match self.entry(file, symbol) {
-            Some(entry) => Some(entry.symbol()),
-            None => None,
-        }
+        Some(self.entry(file, symbol)?.symbol())
     }
 
     fn name_len(&self, file: usize, symbol: usize) -> Option<usize> {
@@ -45,16 +36,12 @@ impl<'a> Shelf for ImageShelf<'a> {
     }
 
     fn name_is(&self, file: usize, symbol: usize, name: &[u8]) -> bool {
-        match self.entry(file, symbol) {
-            Some(entry) => entry.is_named(name),
-            None => false,
-        }
+        self.entry(file, symbol)
+            .is_some_and(|entry| entry.is_named(name))
     }
 
     fn copy_name(&self, file: usize, symbol: usize, out: &mut [u8]) -> Option<usize> {
-        let Some(name) = self.name(file, symbol) else {
-            return None;
-        };
+        let name = self.name(file, symbol)?;
         let len = name.len();
         if len <= out.len() {
             out[0..len].copy_from_slice(name);
@@ -63,31 +50,19 @@ impl<'a> Shelf for ImageShelf<'a> {
     }
 
     fn section_count(&self, file: usize) -> Option<usize> {
-        match self.object(file) {
-            Some(object) => Some(object.section_count()),
-            None => None,
-        }
+        Some(self.object(file)?.section_count())
     }
 
     fn section_at(&self, file: usize, place: usize) -> Option<Section> {
-        match self.object(file) {
-            Some(object) => section_in_order(object.image, object.layout.sections, place),
-            None => None,
-        }
+        section_in_order(self.object(file)?.sections(), place)
     }
 
     fn section(&self, file: usize, number: u16) -> Option<Section> {
-        match self.object(file) {
-            Some(object) => numbered_section(object.image, object.layout.sections, number),
-            None => None,
-        }
+        numbered_section(self.object(file)?.sections(), number)
     }
 
-    fn debuglink(&self, file: usize) -> Option<Debuglink> {
-        match self.object(file) {
-            Some(object) => Some(object.debuglink()),
-            None => None,
-        }
+    fn debuglink(&self, file: usize) -> Option<Debuglink<usize>> {
+        Some(self.object(file)?.debuglink())
     }
 
     fn debuglink_byte(&self, file: usize, at: usize) -> Option<u8> {

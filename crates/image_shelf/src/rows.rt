@@ -3,6 +3,7 @@ ghost use Rattle.std.specs.Prelude.{◌≡◌, None};
 
 use byte_parts::span::Span;
 use elf::layout::Layout;
+use shelf::paths::PathRow;
 
 /// A file of an image shelf.
 #[derive(Clone, Copy)]
@@ -13,6 +14,14 @@ pub struct ImageRow {
     pub image: Span,
     // Where the parts of the image lie, or none where it is no object file: read when a shelf is made.
     pub(crate) layout: Option<Layout>,
+}
+
+impl PathRow for ImageRow {
+    ghost span = { λ row. row.path };
+
+    fn path(&self) -> Span {
+        self.path
+    }
 }
 
 impl ImageRow {

@@ -1,14 +1,11 @@
 // The sections of an image.
 ghost use Rattle.std.specs.Prelude.{◌≡◌, nat_eq};
-ghost use Rattle.std.specs.List.{slice_get};
-ghost use Rattle.byte_parts.specs.Firsts.{first_with};
-ghost use Rattle.elf.specs.Classes.{elf64};
+ghost use Rattle.std.specs.List.{find, slice_get};
 ghost use Rattle.elf.specs.Layouts.{section_model, section_models};
-ghost use Rattle.elf.specs.Sections.{Inside};
 
-use elf::header::SectionTable;
-use elf::places::elf64_places;
-use elf::section::{NOBITS, SectionHeader, section_numbered};
+use elf::kind::SectionKind;
+use elf::section::SectionHeader;
+use elf::sections::Sections;
 use location::{Address, FileOffset};
 use shelf::object::Section;
 
@@ -16,7 +13,7 @@ use shelf::object::Section;
 fn section_from(number: u16, header: SectionHeader) -> Section
     ensures value { result ≡ section_model number header }
 {
-    let offset = if header.kind == NOBITS {
+    let offset = if header.kind == SectionKind::NoBits {
         None
     } else {
         Some(FileOffset(header.offset))
@@ -29,23 +26,21 @@ fn section_from(number: u16, header: SectionHeader) -> Section
 }
 
 // The section with this number.
-pub(crate) fn numbered_section(image: &[u8], table: SectionTable, number: u16) -> Option<Section>
-    requires { Inside elf64 image.now table }
-    ensures value { result ≡ first_with (λ s. nat_eq s.number number) (section_models elf64 image.now table) }
+pub(crate) fn numbered_section(sections: Sections<'_>, number: u16) -> Option<Section>
+    ensures value { result ≡ find (λ s. nat_eq s.number number) (section_models sections.entry.image.places sections.entry.image.bytes.now sections.entry.table) }
 {
-    let header = section_numbered(image, elf64_places(), table, number as u32)?;
+    let header = sections.numbered(number as u32)?;
     Some(section_from(number, header))
 }
 
 // The section at this place, from 0: its number is one more.
-pub(crate) fn section_in_order(image: &[u8], table: SectionTable, place: usize) -> Option<Section>
-    requires { Inside elf64 image.now table }
-    ensures value { result ≡ slice_get (section_models elf64 image.now table) place }
+pub(crate) fn section_in_order(sections: Sections<'_>, place: usize) -> Option<Section>
+    ensures value { result ≡ slice_get (section_models sections.entry.image.places sections.entry.image.bytes.now sections.entry.table) place }
 {
-    if place >= table.count as usize {
+    if place >= sections.table.count as usize {
         return None;
     }
     let number = place as u16 + 1;
-    let header = section_numbered(image, elf64_places(), table, number as u32)?;
+    let header = sections.numbered(number as u32)?;
     Some(section_from(number, header))
 }

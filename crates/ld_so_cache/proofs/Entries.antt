@@ -1,12 +1,13 @@
 -- What the fields and the strings of an entry say of it. Assumes nothing.
-use Rattle.std.proofs.Common.{◌≡◌, ℕ, ◌+◌, ◌<◌, ◌≤◌, List, sym, subst, inr, ⊎_elim, arith}
+use Rattle.std.proofs.Common.{◌≡◌, ℕ, ◌+◌, ◌<◌, ◌≤◌, ◌⊎◌, List, sym, subst, inl, inr, ⊎_elim, arith}
 use Rattle.std.proofs.lemmas.Bool.{cases_lt}
+use Rattle.std.proofs.lemmas.Grind.{not_there}
 use Rattle.byte_parts.specs.Fields.{StringAt}
-use Rattle.ld_so_cache.specs.Cache.{Room, Entry, Whole, FieldsRead}
+use Rattle.ld_so_cache.specs.Cache.{count, Room, Entry, Whole, Good, FieldsRead}
 use Rattle.ld_so_cache.specs.Faults.{Reaches, EntryFault, Refuses}
 use Rattle.ld_so_cache.specs.declared.fault.CacheFault.{CacheFault}
 use Rattle.ld_so_cache.specs.declared.fault.CacheFault.TheVariants.{Truncated, InvalidHeader, InvalidString}
-use Rattle.ld_so_cache.proofs.StringEnds.{one_string}
+use Rattle.byte_parts.proofs.Strings.{string_once}
 
 module _ {bytes : List ℕ} {n flag key_from value_from : ℕ} (f : FieldsRead bytes n flag key_from value_from) where
   pub entry_of : {key value : List ℕ} → StringAt bytes key_from key → StringAt bytes value_from value → Entry bytes n key value
@@ -30,15 +31,24 @@ module _ {bytes : List ℕ} {n flag key_from value_from : ℕ} (f : FieldsRead b
 
   -- the key that was read is the one that the entry has
   pub key_is : {s key value : List ℕ} → StringAt bytes key_from s → Entry bytes n key value → key ≡ s
-  key_is k e = one_string (key_there e) k
+  key_is k e = string_once (key_there e) k
 
--- what holds of each number from 1 to i, and of the next
-pub numbers_more : (P : ℕ → Type 0) (i : ℕ) → ((m : ℕ) → 0 < m → m ≤ i → P m) → P (i + 1) → (m : ℕ) → 0 < m → m ≤ i + 1 → P m
-numbers_more P i all next m some l =
+-- a cache that can be read has no entry that is not whole
+pub no_bad : {bytes : List ℕ} {n total : ℕ} → ∥ Good bytes ∥₁ → total ≡ count bytes → 0 < n → n ≤ total → (Whole bytes n → ⊥) → ⊥
+no_bad good counted some fits bad = not_there good (λ g. bad (g.entries _ some (omega arith)))
+
+-- what holds of each number from 1 on below i, and of i
+pub numbers_more : (P : ℕ → Type 0) (i : ℕ) → ((m : ℕ) → 0 < m → m < i → P m) → P i → (m : ℕ) → 0 < m → m < i + 1 → P m
+numbers_more P i all this m some l =
     ⊎_elim
-    (λ past. let same : i + 1 ≡ m = omega arith in subst P same next)
-    (λ within. all m some within)
-    (cases_lt i m)
+    (λ less. all m some less)
+    (λ past. let same : i ≡ m = omega arith in subst P same this)
+    (cases_lt m i)
+
+-- what holds of each number below the last one reached, and of that one, where it is not past the total, holds of all
+pub numbers_done : (P : ℕ → Type 0) (i total : ℕ) → ((m : ℕ) → 0 < m → m < i → P m) → (total < i) ⊎ (P i × (total ≤ i)) → (m : ℕ) → 0 < m → m ≤ total → P m
+numbers_done P i total all (inl past) m some l = all m some (omega arith)
+numbers_done P i total all (inr last) m some l = numbers_more P i all last.0 m some (omega arith)
 
 -- a fault of the entry that is reached is one of the cache
 pub refuses_at : (bytes : List ℕ) (n : ℕ) → Reaches bytes n → (fault : CacheFault) → EntryFault bytes n fault → Refuses bytes fault

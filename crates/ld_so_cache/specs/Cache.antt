@@ -76,8 +76,3 @@ pub record EntryRead (bytes : List ℕ) (total n flag key_from : ℕ) (key : Lis
   pub flag_is : flag ≡ flags bytes n
   pub key_from_is : key_from ≡ key_place bytes n
   pub value_from_is : value_from ≡ value_place bytes n
-
--- a string can be read at each place before the end, and at none from the end on
-pub record StringsEnd (bytes : List ℕ) (end : ℕ) : Type 0 where
-  pub before : (place : ℕ) → place < end → (s : List ℕ) × StringAt bytes place s
-  pub past : (place : ℕ) (s : List ℕ) → end ≤ place → StringAt bytes place s → ⊥

@@ -1,12 +1,12 @@
 // The loader's cache in its second format: a header, entries of 24 bytes, and strings that the entries place.
 ghost use Rattle.std.specs.Prelude.{◌≡◌, ℕ, ◌<◌, ◌⊎◌, List, MatchOption, MatchResult};
+ghost use Rattle.byte_parts.specs.Fields.{StringsEnd};
 ghost use Rattle.library_name.specs.Names.{NamesKey};
-ghost use Rattle.ld_so_cache.specs.Cache.{Header, count, Room, value_place, Entry, Whole, Good, StringsEnd, FieldsRead, EntryRead, Finds, FindsNone};
+ghost use Rattle.ld_so_cache.specs.Cache.{Header, count, Room, value_place, Entry, Whole, Good, FieldsRead, EntryRead, Finds, FindsNone};
 ghost use Rattle.ld_so_cache.specs.Faults.{EntryFault, Refuses};
 
 use crate::fault::CacheFault;
-use byte_parts::fields::{read_u32, string_at};
-use byte_parts::find::find_last_byte;
+use byte_parts::fields::{read_u32, string_at, strings_end};
 use byte_parts::part::Part;
 use library_name::names_key;
 
@@ -18,6 +18,8 @@ const MAGIC: &[u8] = b"glibc-ld.so.cache1.1";
 pub struct LdSoCache<'a> {
     bytes: &'a [u8],
     entries: u32,
+    ghost good: { ∥ Good bytes.now ∥₁ },
+    ghost counted: { entries ≡ count bytes.now },
 }
 
 /// An entry of a cache.
@@ -54,24 +56,12 @@ fn read_fields(bytes: &[u8], number: u32) -> Option<Fields>
     })
 }
 
-// The first place from which on no zero byte follows: a string can be read at each place below it.
-fn strings_end(bytes: &[u8]) -> usize
-    ensures value { StringsEnd bytes.now result }
-{
-    match find_last_byte(bytes, 0) {
-        Some(last) => last + 1,
-        None => 0,
-    }
-}
-
 // Whether entry `number` is whole. Each string has to start below `end`, which is what `strings_end` answers.
 fn check_entry(bytes: &[u8], end: usize, number: u32) -> Result<(), CacheFault>
     requires { StringsEnd bytes.now end }
     ensures cases { MatchResult result (λ _. Whole bytes.now number) (EntryFault bytes.now number) }
 {
-    let Some(fields) = read_fields(bytes, number) else {
-        return Err(CacheFault::Truncated { entry: number });
-    };
+    let fields = read_fields(bytes, number).ok_or(CacheFault::Truncated { entry: number })?;
     if fields.key >= end || fields.value >= end {
         return Err(CacheFault::InvalidString { entry: number });
     }
@@ -88,10 +78,7 @@ fn read_header(bytes: &[u8]) -> Result<u32, CacheFault>
     if !bytes.starts_with(MAGIC) {
         return Err(CacheFault::InvalidHeader);
     }
-    match read_u32(bytes, 20) {
-        Some(entries) => Ok(entries),
-        None => Err(CacheFault::Truncated { entry: 0 }),
-    }
+    read_u32(bytes, 20).ok_or(CacheFault::Truncated { entry: 0 })
 }
 
 impl<'a> LdSoCache<'a> {
@@ -105,8 +92,8 @@ impl<'a> LdSoCache<'a> {
     {
         let entries = read_header(bytes)?;
         let end = strings_end(bytes);
-        for index in 0..entries {
-            check_entry(bytes, end, index + 1)?;
+        for number in 1..=entries {
+            check_entry(bytes, end, number)?;
         }
         Ok(LdSoCache { bytes, entries })
     }
@@ -118,9 +105,9 @@ impl<'a> LdSoCache<'a> {
         self.entries
     }
 
-    /// The entry with this number, from 1. None where there is no such number, or the entry is not whole.
+    /// The entry with this number, from 1, or none where there is no such number.
     pub fn entry(&self, number: u32) -> Option<CacheEntry<'a>>
-        ensures cases { MatchOption result ((number ≡ 0) ⊎ ((self.now.entries < number) ⊎ (Whole self.now.bytes.now number → ⊥))) (λ e. EntryRead self.now.bytes.now self.now.entries number e.flags e.key.place e.key.bytes.now e.value.place e.value.bytes.now) }
+        ensures cases { MatchOption result ((number ≡ 0) ⊎ (self.now.entries < number)) (λ e. EntryRead self.now.bytes.now self.now.entries number e.flags e.key.place e.key.bytes.now e.value.place e.value.bytes.now) }
     {
         if number == 0 || number > self.len() {
             return None;
@@ -162,8 +149,9 @@ impl<'a> LdSoCache<'a> {
     pub fn resolve(&self, target: &[u8]) -> Option<Part<'a>>
         ensures cases { MatchOption result (FindsNone self.now.bytes.now self.now.entries target.now) (λ p. ((n : ℕ) × Finds self.now.bytes.now self.now.entries target.now n p.bytes.now × (p.place ≡ value_place self.now.bytes.now n))) }
     {
-        for index in 0..self.len() {
-            if let Some(value) = self.value_for(index + 1, target) {
+        // A loop: std has no lemma on what a chain over `a..=b` gives.
+        for number in 1..=self.len() {
+            if let Some(value) = self.value_for(number, target) {
                 return Some(value);
             }
         }

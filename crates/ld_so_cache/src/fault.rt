@@ -1,6 +1,7 @@
 // Why a cache is refused.
-ghost use Rattle.std.specs.Prelude.{◌≡◌};
 ghost use Rattle.ld_so_cache.specs.Faults.{cache_refusal};
+
+use byte_parts::refusal::Fault;
 
 /// Why a cache is refused.
 #[derive(Clone, Copy)]
@@ -13,11 +14,11 @@ pub enum CacheFault {
     InvalidString { entry: u32 },
 }
 
-impl CacheFault {
-    /// The number of the refusal: 4, 5 or 6.
-    pub fn refusal(self) -> u32
-        ensures value { result ≡ (cache_refusal self).number }
-    {
+// The number of the refusal: 4, 5 or 6.
+impl Fault for CacheFault {
+    ghost told = { cache_refusal };
+
+    fn refusal(self) -> u32 {
         match self {
             CacheFault::Truncated { .. } => 4,
             CacheFault::InvalidHeader => 5,

@@ -1,8 +1,10 @@
 -- A name has one stem, and what follows it decides which names it stands for. Assumes nothing.
-use Rattle.std.proofs.Common.{◌≡◌, ℕ, eqb, Bool, ◌⊎◌, List, [], ◌++◌, length, drop, Some, None, Decides, Option, sym, ap, ◌∙◌, subst, inl, inr, ⊎_elim, append_assoc, Bor, MatchOption}
+use Rattle.std.proofs.Common.{◌≡◌, ℕ, eqb, Bool, ◌⊎◌, List, [], ◌++◌, length, drop, false, Some, None, ◌≢◌, Decides, Option, sym, ap, ◌∙◌, subst, inl, inr, ⊎_elim, append_assoc, Bor, MatchOption}
 use Rattle.std.specs.List.{starts_with}
+use Rattle.std.specs.Option.{unwrap_or}
 use Rattle.std.proofs.lemmas.Slice.Eq.{starts_is}
 use Rattle.std.proofs.lemmas.List.{append_cancel_left, append_cancel_right}
+use Rattle.std.proofs.lemmas.Bool.{false≢true}
 use Rattle.std.proofs.lemmas.Bool.Decides.{Decides-like, Decides-eqb}
 use Rattle.library_name.specs.Names.{dot_so, dash, Starts, Stem, AfterStem, NamesFile, NamesKey}
 
@@ -51,3 +53,13 @@ module _ {target name : List ℕ} (none : (rest : List ℕ) → AfterStem target
       ⊎_elim other
       (λ k. none (dot_so ++ k.2.0) (record { stem = k.0; stemmed = k.1; shape = k.2.1 ∙ append_assoc k.0 dot_so k.2.0 }))
       n
+
+-- the front of a name, or else the name, is its stem
+pub stem_of_front : (name : List ℕ) (r : Option (Bor (List ℕ))) (whole : Bor (List ℕ)) → whole.now ≡ name → MatchOption r ((front : List ℕ) → name ≢ front ++ dot_so) (λ x. name ≡ x.now ++ dot_so) → Stem name (unwrap_or r whole).now
+stem_of_front name (Some x) whole e h = inl h
+stem_of_front name None whole e h = inr (e, h)
+
+-- what is decided by the rest, where there is one, is decided by the name
+pub decided_by_rest : {target name : List ℕ} {P : Type 0} (r : Option (Bor (List ℕ))) (b : Bool) {Q : Bor (List ℕ) → Type 0} → MatchOption r ((rest : List ℕ) → AfterStem target name rest → ⊥) (λ x. AfterStem target name x.now) → MatchOption r (b ≡ false) Q → ((x : Bor (List ℕ)) → AfterStem target name x.now → Q x → Decides b P) → (((rest : List ℕ) → AfterStem target name rest → ⊥) → P → ⊥) → Decides b P
+decided_by_rest (Some x) b h q some none = some x h q
+decided_by_rest None b h q some none = (λ e. absurd (false≢true (sym q ∙ e)), λ p. absurd (none h p))

@@ -7,8 +7,8 @@ use Rattle.listed_shelf.specs.Model.{file_model, object_model}
 
 -- its files, in order
 abbrev pub shelf_files : ListedShelf → List FileModel
-shelf_files s = map (file_model s.symbols.now s.sections.now s.text.now) s.files.now
+shelf_files s = map (file_model s.rows) s.rows.files.now
 
 -- what an object row says on it
 abbrev pub object_on : ListedShelf → ObjectRow → ObjectModel
-object_on s = object_model s.symbols.now s.sections.now s.text.now
+object_on s = object_model s.rows

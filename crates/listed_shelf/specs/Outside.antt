@@ -1,15 +1,15 @@
 -- Which row of a listed shelf points outside. Assumes nothing.
-use Rattle.std.specs.Prelude.{ℕ, ◌+◌, Bool, true, not, ◌&&◌, List, length, Some, None, Option}
+use Rattle.std.specs.Prelude.{ℕ, ◌+◌, Bool, true, not, ◌&&◌, length, Some, None, Option}
 use Rattle.std.specs.Option.{option_map, option_or}
-use Rattle.byte_parts.specs.Firsts.{first_place}
+use Rattle.std.specs.List.{position}
 use Rattle.byte_parts.specs.Spans.{inside}
 use Rattle.byte_parts.specs.declared.span.Span.{Span}
+use Rattle.shelf.specs.declared.object.Debuglink.{Debuglink}
+use Rattle.shelf.specs.declared.object.Debuglink.TheVariants.{Absent, Malformed, Named}
 use Rattle.listed_shelf.specs.declared.extent.Extent.{Extent}
 use Rattle.listed_shelf.specs.declared.rows.FileRow.{FileRow}
-use Rattle.listed_shelf.specs.declared.rows.LinkRow.{LinkRow}
-use Rattle.listed_shelf.specs.declared.rows.LinkRow.TheVariants.{Absent, Malformed, Named}
+use Rattle.listed_shelf.specs.declared.rows.Listing.{Listing}
 use Rattle.listed_shelf.specs.declared.rows.ObjectRow.{ObjectRow}
-use Rattle.listed_shelf.specs.declared.rows.SectionRow.{SectionRow}
 use Rattle.listed_shelf.specs.declared.rows.SymbolRow.{SymbolRow}
 
 -- the span, if there is one, lies inside what is this long
@@ -18,7 +18,7 @@ optional_inside long None = true
 optional_inside long (Some s) = inside long s
 
 -- so does the name in a debug link, if there is one
-abbrev pub link_inside : ℕ → LinkRow → Bool
+abbrev pub link_inside : ℕ → Debuglink Span → Bool
 link_inside long Absent = true
 link_inside long Malformed = true
 link_inside long (Named s) = inside long s
@@ -45,11 +45,10 @@ abbrev pub symbol_outside : Extent → SymbolRow → Bool
 symbol_outside e s = not (optional_inside e.text s.name)
 
 -- how far spans may reach
-abbrev pub extent_of : List SymbolRow → List SectionRow → List ℕ → Extent
-extent_of symbols sections text = record { symbols = length symbols; sections = length sections; text = length text }
+abbrev pub extent_of : Listing → Extent
+extent_of l = record { symbols = length l.symbols.now; sections = length l.sections.now; text = length l.text.now }
 
--- the first row that points outside, counted over the files, then the symbols; a section row holds numbers alone
-abbrev pub first_outside : List FileRow → List SymbolRow → List SectionRow → List ℕ → Option ℕ
-first_outside files symbols sections text =
-    let e : Extent = extent_of symbols sections text in
-    option_or (first_place (file_outside e) files) (option_map (λ i. length files + i) (first_place (symbol_outside e) symbols))
+-- the first row that points outside, counted over the files, then the symbols; a section holds numbers alone
+abbrev pub first_outside : Listing → Option ℕ
+first_outside l =
+    option_or (position (file_outside (extent_of l)) l.files.now) (option_map (λ i. length l.files.now + i) (position (symbol_outside (extent_of l)) l.symbols.now))

@@ -2,9 +2,9 @@
 ghost use Rattle.std.specs.Prelude.{◌≡◌};
 ghost use Rattle.listed_shelf.specs.Outside.{file_outside, link_inside, object_inside, optional_inside, symbol_outside};
 
-use crate::rows::{FileRow, LinkRow, ObjectRow, SymbolRow};
+use crate::rows::{FileRow, ObjectRow, SymbolRow};
 use byte_parts::span::{Span, is_inside};
-use table::row::Row;
+use shelf::object::Debuglink;
 
 // How many symbol rows and section rows there are, and how long the text is.
 #[derive(Clone, Copy)]
@@ -14,28 +14,24 @@ pub(crate) struct Extent {
     pub(crate) text: usize,
 }
 
-// A file row is found by an extent that it reaches out of.
-impl Row<Extent> for FileRow {
-    ghost has = { λ row extent. file_outside extent row };
-
-    fn is(&self, key: &Extent) -> bool {
-        if !is_inside(self.path, key.text) {
-            return true;
-        }
-        match self.object {
-            Some(object) => !object_inside(object, *key),
-            None => false,
-        }
+// Whether a file row reaches out of the extent.
+pub(crate) fn file_outside(row: &FileRow, extent: Extent) -> bool
+    ensures value { result ≡ file_outside extent row.now }
+{
+    if !is_inside(row.path, extent.text) {
+        return true;
+    }
+    match row.object {
+        Some(object) => !object_inside(object, extent),
+        None => false,
     }
 }
 
-// A symbol row is found by an extent that it reaches out of.
-impl Row<Extent> for SymbolRow {
-    ghost has = { λ row extent. symbol_outside extent row };
-
-    fn is(&self, key: &Extent) -> bool {
-        !optional_inside(self.name, key.text)
-    }
+// Whether a symbol row reaches out of the extent.
+pub(crate) fn symbol_outside(row: &SymbolRow, extent: Extent) -> bool
+    ensures value { result ≡ symbol_outside extent row.now }
+{
+    !optional_inside(row.name, extent.text)
 }
 
 // Whether each span of the object file is inside.
@@ -49,12 +45,12 @@ fn object_inside(object: ObjectRow, extent: Extent) -> bool
 }
 
 // Whether the name in a debug link, if there is one, is inside what is this long.
-fn link_inside(link: LinkRow, length: usize) -> bool
+fn link_inside(link: Debuglink<Span>, length: usize) -> bool
     ensures value { result ≡ link_inside length link }
 {
     match link {
-        LinkRow::Named(name) => is_inside(name, length),
-        LinkRow::Absent | LinkRow::Malformed => true,
+        Debuglink::Named(name) => is_inside(name, length),
+        Debuglink::Absent | Debuglink::Malformed => true,
     }
 }
 
@@ -62,8 +58,5 @@ fn link_inside(link: LinkRow, length: usize) -> bool
 fn optional_inside(span: Option<Span>, length: usize) -> bool
     ensures value { result ≡ optional_inside length span }
 {
-    match span {
-        Some(span) => is_inside(span, length),
-        None => true,
-    }
+    span.is_none_or(|span| is_inside(span, length))
 }

@@ -5,7 +5,6 @@ pub mod check;
 mod extent;
 pub mod listed;
 mod parts;
-mod path_key;
 pub mod questions;
 pub mod rows;
 mod sections;

@@ -4,36 +4,25 @@ ghost use Rattle.listed_shelf.specs.Contents.{shelf_files};
 ghost use Rattle.listed_shelf.specs.Model.{listed};
 
 use crate::check::check;
-use crate::rows::{FileRow, SectionRow, SymbolRow};
+use crate::rows::Listing;
 
 /// A shelf of the files that rows list.
 #[derive(Clone, Copy)]
 pub struct ListedShelf<'a> {
-    pub(crate) files: &'a [FileRow],
-    pub(crate) symbols: &'a [SymbolRow],
-    pub(crate) sections: &'a [SectionRow],
-    pub(crate) text: &'a [u8],
+    pub(crate) rows: Listing<'a>,
 }
 
 impl<'a> ListedShelf<'a> {
     /// The shelf of exactly these files. Where `check` refuses the rows, it has no file.
-    pub fn new(
-        files: &'a [FileRow],
-        symbols: &'a [SymbolRow],
-        sections: &'a [SectionRow],
-        text: &'a [u8],
-    ) -> ListedShelf<'a>
-        ensures items { shelf_files result ≡ listed files.now symbols.now sections.now text.now }
+    pub fn new(rows: Listing<'a>) -> ListedShelf<'a>
+        ensures items { shelf_files result ≡ listed rows.entry }
     {
-        let files = match check(files, symbols, sections, text) {
-            Ok(()) => files,
-            Err(_) => &files[0..0],
+        let files = match check(rows) {
+            Ok(()) => rows.files,
+            Err(_) => &rows.files[..0],
         };
         ListedShelf {
-            files,
-            symbols,
-            sections,
-            text,
+            rows: Listing { files, ..rows },
         }
     }
 }

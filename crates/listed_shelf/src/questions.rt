@@ -2,50 +2,34 @@
 ghost use Rattle.listed_shelf.specs.Contents.{shelf_files};
 
 use crate::listed::ListedShelf;
-use crate::path_key::PathKey;
-use crate::rows::LinkRow;
-use crate::sections::{section_in, section_of};
+use crate::sections::section_in;
 use byte_parts::span::part_or_empty;
 use shelf::files::Shelf;
 use shelf::object::{Debuglink, ObjectKind, Section, Symbol};
+use shelf::paths::find_path;
 use shelf::text::{byte_of, len_of};
 use table::at::row_at;
-use table::find::find;
 
+// The one-line questions for lengths and bytes stand in both shelves: a trait for them would be longer.
 /// The files that the rows list.
 impl<'a> Shelf for ListedShelf<'a> {
     ghost files = { shelf_files };
 
     fn open(&self, path: &[u8]) -> Option<usize> {
-        let key = PathKey {
-            text: self.text,
-            path,
-        };
-        find(self.files, &key)
+        find_path(self.rows.files, self.rows.text, path)
     }
 
     fn kind(&self, file: usize) -> Option<ObjectKind> {
-        match self.object_row(file) {
-            Some(object) => Some(object.kind),
-            None => None,
-        }
+        Some(self.object_row(file)?.kind)
     }
 
     fn symbol_count(&self, file: usize) -> Option<usize> {
-        match self.object_row(file) {
-            Some(object) => Some(part_or_empty(self.symbols, object.symbols).len()),
-            None => None,
-        }
+        let object = self.object_row(file)?;
+        Some(part_or_empty(self.rows.symbols, object.symbols).len())
     }
 
     fn symbol(&self, file: usize, symbol: usize) -> Option<Symbol> {
-        match self.symbol_row(file, symbol) {
-            Some(row) => Some(Symbol {
-                address: row.address,
-                section: row.section,
-            }),
-            None => None,
-        }
+        Some(self.symbol_row(file, symbol)?.symbol)
     }
 
     fn name_len(&self, file: usize, symbol: usize) -> Option<usize> {
@@ -57,37 +41,23 @@ impl<'a> Shelf for ListedShelf<'a> {
     }
 
     fn section_count(&self, file: usize) -> Option<usize> {
-        match self.section_rows(file) {
-            Some(rows) => Some(rows.len()),
-            None => None,
-        }
+        Some(self.section_rows(file)?.len())
     }
 
     fn section_at(&self, file: usize, place: usize) -> Option<Section> {
-        match self.section_rows(file) {
-            Some(rows) => section_of(row_at(rows, place)),
-            None => None,
-        }
+        row_at(self.section_rows(file)?, place)
     }
 
     fn section(&self, file: usize, number: u16) -> Option<Section> {
-        match self.section_rows(file) {
-            Some(rows) => section_in(rows, number),
-            None => None,
-        }
+        section_in(self.section_rows(file)?, number)
     }
 
-    fn debuglink(&self, file: usize) -> Option<Debuglink> {
-        let Some(object) = self.object_row(file) else {
-            return None;
-        };
-        match object.debuglink {
-            LinkRow::Absent => Some(Debuglink::Absent),
-            LinkRow::Malformed => Some(Debuglink::Malformed),
-            LinkRow::Named(name) => Some(Debuglink::Named {
-                len: part_or_empty(self.text, name).len(),
-            }),
-        }
+    fn debuglink(&self, file: usize) -> Option<Debuglink<usize>> {
+        Some(match self.object_row(file)?.debuglink {
+            Debuglink::Absent => Debuglink::Absent,
+            Debuglink::Malformed => Debuglink::Malformed,
+            Debuglink::Named(name) => Debuglink::Named(part_or_empty(self.rows.text, name).len()),
+        })
     }
 
     fn debuglink_byte(&self, file: usize, at: usize) -> Option<u8> {

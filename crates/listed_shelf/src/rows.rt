@@ -1,7 +1,7 @@
 // The rows that a listed shelf is made of.
 use byte_parts::span::Span;
-use location::{Address, FileOffset};
-use shelf::object::ObjectKind;
+use shelf::object::{Debuglink, ObjectKind, Section, Symbol};
+use shelf::paths::PathRow;
 
 /// A file.
 #[derive(Clone, Copy)]
@@ -12,6 +12,14 @@ pub struct FileRow {
     pub object: Option<ObjectRow>,
 }
 
+impl PathRow for FileRow {
+    ghost span = { λ row. row.path };
+
+    fn path(&self) -> Span {
+        self.path
+    }
+}
+
 /// An object file.
 #[derive(Clone, Copy)]
 pub struct ObjectRow {
@@ -19,23 +27,12 @@ pub struct ObjectRow {
     pub kind: ObjectKind,
     /// Which symbol rows are its own, in the order of a scan.
     pub symbols: Span,
-    /// Which section rows are its own.
+    /// Which sections are its own.
     pub sections: Span,
-    /// What it says of the file that has its debug symbols.
-    pub debuglink: LinkRow,
+    /// What it says of the file that has its debug symbols, with where that file's name lies in the text.
+    pub debuglink: Debuglink<Span>,
     /// Where its build id lies in the text, or none where it has none.
     pub build_id: Option<Span>,
-}
-
-/// What an object file says of the file that has its debug symbols.
-#[derive(Clone, Copy)]
-pub enum LinkRow {
-    /// Nothing.
-    Absent,
-    /// Something that cannot be read.
-    Malformed,
-    /// Where its name lies in the text.
-    Named(Span),
 }
 
 /// A symbol.
@@ -43,19 +40,19 @@ pub enum LinkRow {
 pub struct SymbolRow {
     /// Where its name lies in the text, or none where it has no name.
     pub name: Option<Span>,
-    /// What the symbol stands for.
-    pub address: Address,
-    /// The number of the section that it lies in, or none.
-    pub section: Option<u16>,
+    /// All else that is known of it.
+    pub symbol: Symbol,
 }
 
-/// A section. Its row holds numbers alone, so it never points outside.
+/// All rows of a listed shelf, and the text that they point into.
 #[derive(Clone, Copy)]
-pub struct SectionRow {
-    /// The number by which symbols name it.
-    pub number: u16,
-    /// Where it starts in memory.
-    pub address: Address,
-    /// Where it starts in the file, or none where it takes no room there.
-    pub offset: Option<FileOffset>,
+pub struct Listing<'a> {
+    /// The files.
+    pub files: &'a [FileRow],
+    /// The symbols of all object files.
+    pub symbols: &'a [SymbolRow],
+    /// The sections of all object files. They hold numbers alone, so none points outside.
+    pub sections: &'a [Section],
+    /// The names, paths and build ids.
+    pub text: &'a [u8],
 }

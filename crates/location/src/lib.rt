@@ -4,6 +4,8 @@
 ghost use Rattle.std.specs.Prelude.{◌≡◌, ◌+◌, IfOk};
 ghost use Rattle.location.specs.Translation.{location_refusal, outcome, translated};
 
+use byte_parts::refusal::Fault;
+
 /// An address in memory, as symbols and sections of an object file have it.
 #[derive(Clone, Copy)]
 pub struct Address(pub u64);
@@ -29,11 +31,11 @@ pub enum LocationFault {
     },
 }
 
-impl LocationFault {
-    /// The number of the refusal.
-    pub fn refusal(self) -> u32
-        ensures { result ≡ (location_refusal self).number }
-    {
+// The number of the refusal: 1 or 2.
+impl Fault for LocationFault {
+    ghost told = { location_refusal };
+
+    fn refusal(self) -> u32 {
         match self {
             LocationFault::AddressNotInSection { .. } => 1,
             LocationFault::FileOffsetOverflow { .. } => 2,
@@ -54,19 +56,20 @@ pub fn from_virtual_address(
     ensures value { outcome result ≡ translated instruction_address.0 section_address.0 section_offset.0 }
     ensures distance { IfOk result (λ f. f.0 + section_address.0 ≡ instruction_address.0 + section_offset.0) }
 {
-    let Some(distance) = instruction_address.0.checked_sub(section_address.0) else {
-        return Err(LocationFault::AddressNotInSection {
+    let distance = instruction_address
+        .0
+        .checked_sub(section_address.0)
+        .ok_or(LocationFault::AddressNotInSection {
             instruction_address,
             section_address,
             section_offset,
-        });
-    };
-    let Some(offset) = distance.checked_add(section_offset.0) else {
-        return Err(LocationFault::FileOffsetOverflow {
+        })?;
+    let offset = distance
+        .checked_add(section_offset.0)
+        .ok_or(LocationFault::FileOffsetOverflow {
             instruction_address,
             section_address,
             section_offset,
-        });
-    };
+        })?;
     Ok(FileOffset(offset))
 }

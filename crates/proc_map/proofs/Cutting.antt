@@ -1,9 +1,9 @@
 -- The lines of maps: what a cursor gives, and what they are together. Assumes nothing.
-use Rattle.std.proofs.Common.{◌≡◌, ℕ, ◌+◌, ◌-◌, Bool, true, cond, eqb, ltb, List, [], ◌∷◌, map, length, take, drop, sym, refl, ap, ◌∙◌, subst, ⊎_elim, arith}
+use Rattle.std.proofs.Common.{◌≡◌, ℕ, ◌+◌, ◌-◌, eqb, List, [], ◌∷◌, map, length, take, drop, sym, refl, ap, ◌∙◌, subst, ⊎_elim, arith}
 use Rattle.std.specs.List.{prefix_len, suffix_len, AllByRecursion}
 use Rattle.std.proofs.lemmas.List.{append-nil, length-drop, nil_from_length}
 use Rattle.std.proofs.lemmas.List.Sums.{prefix_len-le-length}
-use Rattle.std.proofs.lemmas.Bool.{cases_eq, cases_lt, cond-true, cond-false, eq-eqb, ne_eqb, lt-ltb, le-ltb}
+use Rattle.std.proofs.lemmas.Bool.{cases_eq, cases_lt, cond-true, cond-false, eq-eqb, ne_eqb}
 use Rattle.byte_parts.specs.Cut.{cut, glued}
 use Rattle.byte_parts.specs.Parts.{PartOf}
 use Rattle.byte_parts.specs.Places.{Free, First}
@@ -11,38 +11,22 @@ use Rattle.byte_parts.specs.Words.{white}
 use Rattle.byte_parts.proofs.Cuts.{cut_free, cut_lacks, glued_cut}
 use Rattle.byte_parts.proofs.FirstWords.{onward}
 use Rattle.byte_parts.proofs.Parted.{cut_first, length_front, part_front, part_back, part_taken}
-use Rattle.proc_map.specs.Maps.{Line, placed, trimmed, cut_lines, map_lines, LinesOf, Trims}
+use Rattle.proc_map.specs.Maps.{Line, placed, trimmed, map_lines, LinesOf, Trims}
 use Rattle.proc_map.proofs.Paths.{path_size, path_there, all_blank}
 
 abbrev line : ℕ → List ℕ → Line
 line place bytes = record { place = place; bytes = bytes }
 
 -- the line before a line feed, and those after it
-pub lines_more : (more : Bool) (place : ℕ) (rest : List ℕ) (i : ℕ) (front back : List ℕ) → more ≡ true → First 10 rest i → front ≡ take i rest → back ≡ drop (i + 1) rest → cond more (placed place (cut 10 rest)) [] ≡ line place front ∷ cond more (placed (place + i + 1) (cut 10 back)) []
-lines_more more place rest i front back yes' f before after =
-    cond-true more _ _ yes'
-    ∙ ap (placed place) (cut_first f)
+pub lines_more : (place : ℕ) (rest : List ℕ) (i : ℕ) (front back : List ℕ) → First 10 rest i → front ≡ take i rest → back ≡ drop (i + 1) rest → placed place (cut 10 rest) ≡ line place front ∷ placed (place + i + 1) (cut 10 back)
+lines_more place rest i front back f before after =
+    ap (placed place) (cut_first f)
     ∙ ap (λ n. line place (take i rest) ∷ placed (place + n + 1) (cut 10 (drop (i + 1) rest))) (length_front f)
     ∙ sym (λ j. line place (before j) ∷ placed (place + i + 1) (cut 10 (after j)))
-    ∙ ap (λ l. line place front ∷ l) (sym (cond-true more _ _ yes'))
 
 -- the last line
-pub lines_last : (more : Bool) (place : ℕ) (rest : List ℕ) → more ≡ true → Free 10 rest → cond more (placed place (cut 10 rest)) [] ≡ line place rest ∷ []
-lines_last more place rest yes' f = cond-true more _ _ yes' ∙ ap (placed place) (cut_free 10 rest f)
-
-some_lines : (place : ℕ) (text : List ℕ) → cond (ltb 0 (length text)) (placed place (cut 10 text)) [] ≡ cut_lines place text
-some_lines place text =
-    ⊎_elim
-    (λ none. cond-false (ltb 0 (length text)) _ _ (le-ltb 0 (length text) (omega arith)) ∙ sym (cond-true (eqb (length text) 0) _ _ (eq-eqb (length text) 0 none)))
-    (λ some. cond-true (ltb 0 (length text)) _ _ (lt-ltb 0 (length text) (omega arith)) ∙ sym (cond-false (eqb (length text) 0) _ _ (ne_eqb (length text) 0 some)))
-    (cases_eq (length text) 0)
-
--- a cursor before the first line
-pub lines_first : (maps : List ℕ) (place e : ℕ) (from text : List ℕ) → place ≡ prefix_len white maps → from ≡ drop place maps → e ≡ suffix_len white from → text ≡ take (length from - e) from → cond (ltb 0 (length text)) (placed place (cut 10 text)) [] ≡ map_lines maps
-lines_first maps place e from text p f r t =
-    let on : from ≡ drop (prefix_len white maps) maps = cc in
-    let body : text ≡ trimmed maps = t ∙ ap (λ n. take (length from - n) from) r ∙ ap (λ l. take (length l - suffix_len white l) l) on in
-    some_lines place text ∙ (λ j. cut_lines (p j) (body j))
+pub lines_last : (place : ℕ) (rest : List ℕ) → Free 10 rest → placed place (cut 10 rest) ≡ line place rest ∷ []
+lines_last place rest f = ap (placed place) (cut_free 10 rest f)
 
 placed_bytes : (place : ℕ) (ps : List (List ℕ)) → map (λ l. l.bytes) (placed place ps) ≡ ps
 placed_bytes place [] = refl

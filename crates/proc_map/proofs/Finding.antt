@@ -1,5 +1,5 @@
 -- The look-up of a library, line by line. Assumes nothing.
-use Rattle.std.proofs.Common.{◌≡◌, ℕ, ◌+◌, ◌⊎◌, List, [], ◌∷◌, ◌++◌, length, Some, None, Option, sym, refl, ap, ◌∙◌, subst, inl, inr, arith}
+use Rattle.std.proofs.Common.{◌≡◌, ℕ, ◌+◌, ◌⊎◌, List, [], ◌∷◌, ◌++◌, length, Some, None, Option, sym, ap, ◌∙◌, subst, inl, inr, arith}
 use Rattle.std.proofs.lemmas.List.{length-append}
 use Rattle.std.specs.List.{AllByRecursion}
 use Rattle.byte_parts.specs.Parts.{PartOf}
@@ -40,10 +40,6 @@ abbrev Answers : List ℕ → Line → List Line → Mapping → Found → Type 
 Answers target l ls m a =
     ((path : List ℕ) × NamesPath target m path × (a ≡ path_at (l.place + m.path_place) path))
     ⊎ (((path : List ℕ) → NamesPath target m path → ⊥) × LooksUp target ls a)
-
--- the first line that names the target answers
-pub found_here : {target : List ℕ} {m : Mapping} {path : List ℕ} (l : Line) (ls : List Line) → Reads l.bytes m → NamesPath target m path → LooksUp target (l ∷ ls) (path_at (l.place + m.path_place) path)
-found_here {m} {path} l ls reads names = inr (m, reads, inl (path, names, refl))
 
 -- a line that does not leaves the answer to those after it
 pub passed : {target : List ℕ} {m : Mapping} (l : Line) (ls : List Line) (a : Found) → Reads l.bytes m → ((path : List ℕ) → NamesPath target m path → ⊥) → LooksUp target ls a → LooksUp target (l ∷ ls) a

@@ -1,12 +1,13 @@
 -- The path behind a line's words, by the white space around it. Assumes nothing.
-use Rattle.std.proofs.Common.{◌≡◌, ℕ, ◌+◌, ◌-◌, ◌<◌, ◌≤◌, false, List, ◌++◌, length, get_or, take, drop, sym, refl, ap, ◌∙◌, subst, ⊎_elim, arith}
+use Rattle.std.proofs.Common.{◌≡◌, ℕ, ◌+◌, ◌-◌, ◌<◌, false, List, ◌++◌, length, get_or, take, drop, sym, refl, ap, ◌∙◌, subst, ⊎_elim, arith}
 use Rattle.std.specs.List.{prefix_len, suffix_len}
 use Rattle.std.proofs.lemmas.List.{length-append, length-drop, length-take-le, get_or_append_left, get_or-append_right, get_or-take, get_or-drop, take-append-drop, take_at, drop_at}
 use Rattle.std.proofs.lemmas.List.Sums.{prefix_len-le-length}
 use Rattle.std.proofs.lemmas.Bool.{cases_lt, both_ways, not-true, not_from_false}
 use Rattle.byte_parts.specs.Words.{white, dark, Only}
 use Rattle.byte_parts.proofs.FirstWords.{onward}
-use Rattle.byte_parts.proofs.Runs.{leading_yes, leading_no, leading_front, ending_yes, ending_no, ending_is}
+use Rattle.byte_parts.proofs.Runs.{leading_front, ending_yes, ending_no, ending_is}
+use Rattle.std.proofs.lemmas.List.Sums.{prefix_len_passes, prefix_len_stops}
 use Rattle.proc_map.specs.Line.{PathIn}
 
 -- how long it is without the white space at its end
@@ -18,7 +19,7 @@ first_dark : (rest : List ℕ) → 0 < length (onward rest) → white (get_or (o
 first_dark rest h =
     let left = length-drop (prefix_len white rest) rest in
     let there : prefix_len white rest + 0 ≡ prefix_len white rest = omega arith in
-    ap white (get_or-drop (prefix_len white rest) rest 0 0 ∙ ap (λ i. get_or rest i 0) there) ∙ leading_no white rest 0 (omega arith)
+    ap white (get_or-drop (prefix_len white rest) rest 0 0 ∙ ap (λ i. get_or rest i 0) there) ∙ prefix_len_stops white rest 0 (omega arith)
 
 pub path_there : (rest : List ℕ) → 0 < path_size rest → PathIn rest (prefix_len white rest) (take (path_size rest) (onward rest))
 path_there rest h =
@@ -34,7 +35,7 @@ path_there rest h =
       after = drop n on;
       shape = sym (ap (λ l. take gap rest ++ l) (take-append-drop n on) ∙ take-append-drop gap rest);
       gapped = length-take-le gap rest fits;
-      blank_before = λ k l. let short = length-take-le gap rest fits in ap white (get_or-take gap rest k 0 (omega arith)) ∙ leading_yes white rest k 0 (omega arith);
+      blank_before = λ k l. let short = length-take-le gap rest fits in ap white (get_or-take gap rest k 0 (omega arith)) ∙ prefix_len_passes white rest k 0 (omega arith);
       blank_after = λ k l. ap white (get_or-drop n on k 0) ∙ ending_yes white on (n + k) 0 (omega arith) (omega arith);
       some = omega arith;
       first = not_from_false _ (ap white (get_or-take n on 0 0 h) ∙ first_dark rest (omega arith));
@@ -46,7 +47,7 @@ all_blank rest none k l =
     let left = length-drop (prefix_len white rest) rest in
     ⊎_elim
     (λ some. absurd (both_ways _ (first_dark rest some) (ending_yes white (onward rest) 0 0 (omega arith) some)))
-    (λ empty. leading_yes white rest k 0 (omega arith))
+    (λ empty. prefix_len_passes white rest k 0 (omega arith))
     (cases_lt 0 (length (onward rest)))
 
 -- the same two, at what the gap and the path were found by
@@ -68,13 +69,6 @@ module _ (rest : List ℕ) (gap e : ℕ) (from : List ℕ) (found : gap ≡ pref
   blank_found none = all_blank rest (sym size_from ∙ none)
 
 module _ {rest : List ℕ} {gap : ℕ} {path : List ℕ} (h : PathIn rest gap path) where
-  pub gap_fits : gap + length path ≤ length rest
-  gap_fits =
-      let whole = ap length h.shape ∙ length-append h.before (path ++ h.after) in
-      let behind = length-append path h.after in
-      let size = h.gapped in
-      omega arith
-
   pub gap_is : gap ≡ prefix_len white rest
   gap_is =
       sym h.gapped
@@ -104,4 +98,4 @@ module _ {rest : List ℕ} {gap : ℕ} {path : List ℕ} (h : PathIn rest gap pa
       let some = h.some in
       let left = length-drop (prefix_len white rest) rest in
       let long = ap length onward_is ∙ length-append path h.after in
-      both_ways _ (leading_no white rest 0 (omega arith)) (all (prefix_len white rest) (omega arith))
+      both_ways _ (prefix_len_stops white rest 0 (omega arith)) (all (prefix_len white rest) (omega arith))

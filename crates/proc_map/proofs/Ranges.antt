@@ -5,12 +5,7 @@ use Rattle.std.proofs.lemmas.Bool.{cases_order}
 use Rattle.byte_parts.specs.Numbers.{Writes}
 use Rattle.byte_parts.specs.Places.{Free, First}
 use Rattle.byte_parts.proofs.Numerals.{writes_no_minus, writes_once}
-use Rattle.byte_parts.proofs.Parted.{parted}
 use Rattle.proc_map.specs.Line.{Range}
-
-pub range_made : (word : List ℕ) (i low high : ℕ) → First 45 word i → Writes 16 (take i word) low → Writes 16 (drop (i + 1) word) high → Range word low high
-range_made word i low high f a b =
-    record { left = take i word; right = drop (i + 1) word; shape = parted f; starts = a; stops = b }
 
 module _ {word : List ℕ} {low high : ℕ} (r : Range word low high) where
   dash_there : get_or word (length r.left) 0 ≡ 45

@@ -1,5 +1,6 @@
 // The lines of maps one after another: maps are trimmed and cut at line feeds.
-ghost use Rattle.std.specs.Prelude.{◌≡◌, [], ◌∷◌, MatchOption};
+ghost use Rattle.std.specs.Prelude.{◌≡◌};
+ghost use Rattle.std.specs.Iterator.{item_count, YieldsFirstBy};
 ghost use Rattle.proc_map.specs.Cursor.{line_of, lines_left};
 ghost use Rattle.proc_map.specs.Maps.{map_lines, LinesOf};
 
@@ -16,32 +17,34 @@ impl<'a> Lines<'a> {
     {
         let place = leading_white(maps);
         let from = &maps[place..];
-        let rest = &from[0..from.len() - ending_white(from)];
+        let bytes = &from[..from.len() - ending_white(from)];
         Lines {
-            rest,
-            place,
-            more: rest.len() > 0,
+            left: (!bytes.is_empty()).then_some(Part { place, bytes }),
         }
     }
+}
 
-    /// The next line, with its place in the maps, or none after the last.
-    pub fn next(&mut self) -> Option<Part<'a>>
-        ensures cases { MatchOption result ((lines_left self.old ≡ []) × (lines_left self.new ≡ [])) (λ l. lines_left self.old ≡ line_of l ∷ lines_left self.new) }
-    {
-        if !self.more {
-            return None;
-        }
-        let place = self.place;
-        let rest = self.rest;
-        let Some(end) = find_byte(rest, b'\n') else {
-            self.more = false;
-            return Some(Part { place, bytes: rest });
+// The first of the lines left comes next, with its place in the maps, and none after the last.
+impl<'a> Iterator for Lines<'a> {
+    type Item = Part<'a>;
+
+    ghost next_gives = { YieldsFirstBy line_of lines_left };
+
+    ghost remaining = { item_count lines_left };
+
+    fn next(&mut self) -> Option<Part<'a>> {
+        let Part { place, bytes } = self.left?;
+        let Some(end) = find_byte(bytes, b'\n') else {
+            self.left = None;
+            return Some(Part { place, bytes });
         };
-        self.rest = &rest[end + 1..];
-        self.place = place + end + 1;
+        self.left = Some(Part {
+            place: place + end + 1,
+            bytes: &bytes[end + 1..],
+        });
         Some(Part {
             place,
-            bytes: &rest[0..end],
+            bytes: &bytes[..end],
         })
     }
 }

@@ -27,7 +27,7 @@ pub struct ProcMapEntry<'a> {
     pub inode: u64,
     /// The mapped file's path, if the line has one.
     pub path: Option<&'a [u8]>,
-    /// Where the path starts in the line; the line's length where it has none.
+    /// Where the path starts in the line; the line's length where it has none. A field of its own, since a line without a path has a place too.
     pub path_place: usize,
 }
 
@@ -39,13 +39,10 @@ impl<'a> ProcMapEntry<'a> {
         ensures cases { MatchResult result (λ e. Reads line.entry.bytes.now (mapping e)) (λ f. Unreadable line.entry.bytes.now × (line_refusal f ≡ refuse 3 (line.entry.place ∷ length line.entry.bytes.now ∷ []))) }
         ensures once { ReadsOnce }
     {
-        match read(line.bytes) {
-            Some(entry) => Ok(entry),
-            None => Err(LineFault::ParseLine {
-                place: line.place,
-                len: line.bytes.len(),
-            }),
-        }
+        read(line.bytes).ok_or(LineFault::ParseLine {
+            place: line.place,
+            len: line.bytes.len(),
+        })
     }
 }
 
@@ -58,7 +55,7 @@ fn read(line: &[u8]) -> Option<ProcMapEntry<'_>>
     let offset = parse_number(words.offset, Radix::Hexadecimal)?;
     let inode = parse_number(words.inode, Radix::Decimal)?;
     let (path, path_place) = match path_part(words.rest) {
-        Some(part) => (Some(part.bytes), line.len() - words.rest.len() + part.gap),
+        Some(part) => (Some(part.bytes), line.len() - words.rest.len() + part.place),
         None => (None, line.len()),
     };
     Some(ProcMapEntry {

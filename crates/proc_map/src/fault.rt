@@ -1,6 +1,7 @@
 // Why maps cannot be read.
-ghost use Rattle.std.specs.Prelude.{◌≡◌};
 ghost use Rattle.proc_map.specs.Faults.{line_refusal};
+
+use byte_parts::refusal::Fault;
 
 /// Why a line of maps cannot be read.
 #[derive(Clone, Copy)]
@@ -9,11 +10,11 @@ pub enum LineFault {
     ParseLine { place: usize, len: usize },
 }
 
-impl LineFault {
-    /// The number of the refusal.
-    pub fn refusal(self) -> u32
-        ensures { result ≡ (line_refusal self).number }
-    {
+// The number of the refusal: 3.
+impl Fault for LineFault {
+    ghost told = { line_refusal };
+
+    fn refusal(self) -> u32 {
         match self {
             LineFault::ParseLine { .. } => 3,
         }

@@ -25,8 +25,7 @@ pub fn find_library_path_by_name<'a>(
     ensures once { LooksUpOnce }
     ensures part { IfOk result (λ o. IfSome o (λ p. PartOf maps.now p.place p.bytes.now)) }
 {
-    let mut lines = Lines::new(maps);
-    while let Some(line) = lines.next() {
+    for line in Lines::new(maps) {
         let entry = ProcMapEntry::parse(line)?;
         if let Some(path) = named_path(entry, target) {
             return Ok(Some(path_in_maps(line, entry, path)));
@@ -53,9 +52,5 @@ fn named_path<'a>(entry: ProcMapEntry<'a>, target: &[u8]) -> Option<&'a [u8]>
 {
     let path = entry.path?;
     let file = file_name(path)?;
-    if names_file(target, file) {
-        Some(path)
-    } else {
-        None
-    }
+    names_file(target, file).then_some(path)
 }

@@ -1,13 +1,13 @@
 // A cursor over the lines of maps: the struct alone. Its functions cite definitions that name it, and stand in cursor.rt.
 ghost use Rattle.std.specs.Prelude.{◌+◌, ◌^◌, ◌<◌, length};
+ghost use Rattle.std.specs.Option.{ForSome};
 
-/// A cursor over the lines of maps.
+use byte_parts::part::Part;
+
+/// The lines of maps one after another: an iterator.
 #[derive(Drop)]
 pub struct Lines<'a> {
-    // what follows the lines that were given, from the place of the next one on
-    pub(crate) rest: &'a [u8],
-    pub(crate) place: usize,
-    // whether a line is left
-    pub(crate) more: bool,
-    ghost fits: { place + length rest.now < 2 ^ 64 },
+    // what follows the lines that were given, from the place of the next one on; none behind the last line
+    pub(crate) left: Option<Part<'a>>,
+    ghost fits: { ForSome left (λ p. p.place + length p.bytes.now < 2 ^ 64) },
 }

@@ -5,7 +5,9 @@ ghost use Rattle.proc_map.specs.Line.{Words, Range, PathIn};
 
 use byte_parts::find::find_byte;
 use byte_parts::number::{Radix, parse_number};
+use byte_parts::part::Part;
 use byte_parts::words::{ending_white, leading_white, next_word};
+use std::ops;
 
 // The first five words of a line, and what follows them.
 #[derive(Clone, Copy)]
@@ -37,42 +39,29 @@ pub(crate) fn five_words(line: &[u8]) -> Option<FiveWords<'_>>
     })
 }
 
-// The two ends of a range of addresses.
-#[derive(Clone, Copy)]
-pub(crate) struct AddressRange {
-    pub(crate) start: u64,
-    pub(crate) end: u64,
-}
-
 // The two hexadecimal numbers around the one dash of `word`.
-pub(crate) fn address_range(word: &[u8]) -> Option<AddressRange>
+pub(crate) fn address_range(word: &[u8]) -> Option<ops::Range<u64>>
     ensures cases { MatchOption result ((low high : ℕ) → Range word.now low high → ⊥) (λ p. Range word.now p.start p.end) }
 {
     let dash = find_byte(word, b'-')?;
-    let start = parse_number(&word[0..dash], Radix::Hexadecimal)?;
+    let start = parse_number(&word[..dash], Radix::Hexadecimal)?;
     let end = parse_number(&word[dash + 1..], Radix::Hexadecimal)?;
-    Some(AddressRange { start, end })
+    Some(start..end)
 }
 
-// A path at the end of a line: how many bytes stand before it in what follows the words, and its bytes.
-#[derive(Clone, Copy)]
-pub(crate) struct PathPart<'a> {
-    pub(crate) gap: usize,
-    pub(crate) bytes: &'a [u8],
-}
-
-// What follows the words, without the white space around it, or none where that is all.
-pub(crate) fn path_part(rest: &[u8]) -> Option<PathPart<'_>>
-    ensures cases { MatchOption result (Only white rest.now) (λ p. PathIn rest.now p.gap p.bytes.now) }
+// What follows the words, without the white space around it and with its place there, or none where
+// that is all.
+pub(crate) fn path_part(rest: &[u8]) -> Option<Part<'_>>
+    ensures cases { MatchOption result (Only white rest.now) (λ p. PathIn rest.now p.place p.bytes.now) }
 {
-    let gap = leading_white(rest);
-    let from = &rest[gap..];
+    let place = leading_white(rest);
+    let from = &rest[place..];
     let len = from.len() - ending_white(from);
     if len == 0 {
         return None;
     }
-    Some(PathPart {
-        gap,
-        bytes: &from[0..len],
+    Some(Part {
+        place,
+        bytes: &from[..len],
     })
 }

@@ -4,6 +4,7 @@ use attach_target::fault::TargetFault;
 use attach_target::scope::UProbeScope;
 use attach_target::target::{Target, resolve_attach_target};
 use byte_parts::part::Part;
+use byte_parts::refusal::Fault;
 use ld_so_cache::cache::LdSoCache;
 use location::{Address, FileOffset, from_virtual_address};
 use proc_map::entry::ProcMapEntry;
@@ -54,10 +55,8 @@ fn optional(rt: &HostRuntime, bytes: Option<&[u8]>) -> io::Result<()> {
 
 fn joined(rt: &HostRuntime, base: &[u8], name: &[u8]) -> io::Result<()> {
     let mut out = [0u8; 512];
-    match join(base, name, &mut out) {
-        Some(len) if len <= 512 => some(rt, &out[0..len]),
-        _ => rt.println("none"),
-    }
+    let len = join(base, name, &mut out);
+    optional(rt, len.and_then(|len| out.get(..len)))
 }
 
 fn line(rt: &HostRuntime, bytes: &[u8]) -> io::Result<()> {
@@ -97,8 +96,8 @@ fn checked(rt: &HostRuntime, bytes: &[u8]) -> io::Result<()> {
         Ok(cache) => {
             let entries = cache.len();
             print!(rt; "entries {entries}")?;
-            for index in 0..entries {
-                if let Some(entry) = cache.entry(index + 1) {
+            for number in 1..=entries {
+                if let Some(entry) = cache.entry(number) {
                     rt.print(" ")?;
                     hexadecimal(rt, entry.key.bytes)?;
                     rt.print("=")?;
@@ -134,21 +133,24 @@ fn target(rt: &HostRuntime, case: &Case) -> io::Result<()> {
     }
 }
 
-// The input is the three numbers, 8 bytes each, the most significant first.
+// Three numbers, 8 bytes each, the most significant first.
+fn three_numbers(bytes: &[u8]) -> Option<(u64, u64, u64)> {
+    let (first, rest) = bytes.split_first_chunk::<8>()?;
+    let (second, rest) = rest.split_first_chunk::<8>()?;
+    let third = rest.first_chunk::<8>()?;
+    Some((
+        u64::from_be_bytes(*first),
+        u64::from_be_bytes(*second),
+        u64::from_be_bytes(*third),
+    ))
+}
+
+// The input is the three numbers: the address, and the section's address and offset.
 fn offset(rt: &HostRuntime, bytes: &[u8]) -> io::Result<()> {
-    let Some((address, rest)) = bytes.split_first_chunk::<8>() else {
+    let Some((address, section, start)) = three_numbers(bytes) else {
         return rt.println("unknown");
     };
-    let Some((section, rest)) = rest.split_first_chunk::<8>() else {
-        return rt.println("unknown");
-    };
-    let Some((start, _)) = rest.split_first_chunk::<8>() else {
-        return rt.println("unknown");
-    };
-    let address = Address(u64::from_be_bytes(*address));
-    let section = Address(u64::from_be_bytes(*section));
-    let start = FileOffset(u64::from_be_bytes(*start));
-    match from_virtual_address(address, section, start) {
+    match from_virtual_address(Address(address), Address(section), FileOffset(start)) {
         Ok(found) => {
             let place = found.0;
             println!(rt; "offset {place}")

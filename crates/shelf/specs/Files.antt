@@ -1,5 +1,6 @@
 -- What a shelf means: files in order, each with what its object file says, if it is one. Assumes nothing.
 use Rattle.std.specs.Prelude.{ℕ, List, Option}
+use Rattle.shelf.specs.declared.object.Debuglink.{Debuglink}
 use Rattle.shelf.specs.declared.object.ObjectKind.{ObjectKind}
 use Rattle.shelf.specs.declared.object.Section.{Section}
 use Rattle.shelf.specs.declared.object.Symbol.{Symbol}
@@ -9,11 +10,9 @@ pub record SymbolModel : Type 0 where
   pub name : Option (List ℕ)
   pub symbol : Symbol
 
--- what an object file says of the file that has its debug symbols
-pub data LinkModel : Type 0 where
-  absent : LinkModel
-  malformed : LinkModel
-  named : List ℕ → LinkModel
+-- what an object file says of the file that has its debug symbols, with its name
+abbrev pub LinkModel : Type 0
+LinkModel = Debuglink (List ℕ)
 
 -- an object file: its symbols in the order of a scan, its sections, each with its number
 pub record ObjectModel : Type 0 where

@@ -1,10 +1,9 @@
 -- What each question to a shelf answers, by the files that the shelf means. Assumes nothing.
 use Rattle.std.specs.Prelude.{ℕ, cond, List, ◌++◌, length, drop, Some, None, Option, nat_eq, nat_le}
 use Rattle.std.specs.Option.{option_map}
-use Rattle.std.specs.List.{slice_get}
+use Rattle.std.specs.List.{find, position, slice_get}
 use Rattle.std.specs.Str.{bytes_eq}
-use Rattle.byte_parts.specs.Firsts.{first_place, first_with}
-use Rattle.shelf.specs.Files.{FileModel, LinkModel, ObjectModel, SymbolModel, absent, malformed, named}
+use Rattle.shelf.specs.Files.{FileModel, LinkModel, ObjectModel, SymbolModel}
 use Rattle.shelf.specs.declared.object.Debuglink.{Debuglink}
 use Rattle.shelf.specs.declared.object.Debuglink.TheVariants.{Absent, Malformed, Named}
 use Rattle.shelf.specs.declared.object.ObjectKind.{ObjectKind}
@@ -18,7 +17,7 @@ ask (Some x) f = f x
 
 -- the number of the first file with exactly this path
 abbrev pub opened : List FileModel → List ℕ → Option ℕ
-opened files path = first_place (λ f. bytes_eq f.path path) files
+opened files path = position (λ f. bytes_eq f.path path) files
 
 -- the object file with this number
 abbrev pub object_of : List FileModel → ℕ → Option ObjectModel
@@ -58,19 +57,19 @@ section_at files file place = ask (object_of files file) (λ o. slice_get o.sect
 
 -- the first section with this number
 abbrev pub section_of : List FileModel → ℕ → ℕ → Option Section
-section_of files file number = ask (object_of files file) (λ o. first_with (λ s. nat_eq s.number number) o.sections)
+section_of files file number = ask (object_of files file) (λ o. find (λ s. nat_eq s.number number) o.sections)
 
-abbrev pub link_answer : LinkModel → Debuglink
-link_answer absent = Absent
-link_answer malformed = Malformed
-link_answer (named name) = Named (length name)
+abbrev pub link_answer : LinkModel → Debuglink ℕ
+link_answer Absent = Absent
+link_answer Malformed = Malformed
+link_answer (Named name) = Named (length name)
 
 abbrev pub link_name : LinkModel → Option (List ℕ)
-link_name absent = None
-link_name malformed = None
-link_name (named name) = Some name
+link_name Absent = None
+link_name Malformed = None
+link_name (Named name) = Some name
 
-abbrev pub debuglink_of : List FileModel → ℕ → Option Debuglink
+abbrev pub debuglink_of : List FileModel → ℕ → Option (Debuglink ℕ)
 debuglink_of files file = option_map (λ o. link_answer o.debuglink) (object_of files file)
 
 abbrev pub debuglink_byte : List FileModel → ℕ → ℕ → Option ℕ

@@ -1,6 +1,7 @@
 // Why a shelf cannot be made of its rows.
-ghost use Rattle.std.specs.Prelude.{◌≡◌};
 ghost use Rattle.shelf.specs.Faults.{shelf_refusal};
+
+use byte_parts::refusal::Fault;
 
 /// Why a shelf cannot be made of its rows.
 #[derive(Clone, Copy)]
@@ -9,11 +10,11 @@ pub enum ShelfFault {
     RowOutside { place: usize },
 }
 
-impl ShelfFault {
-    /// The number of the refusal: 33.
-    pub fn refusal(self) -> u32
-        ensures value { result ≡ (shelf_refusal self).number }
-    {
+// The number of the refusal: 33.
+impl Fault for ShelfFault {
+    ghost told = { shelf_refusal };
+
+    fn refusal(self) -> u32 {
         match self {
             ShelfFault::RowOutside { .. } => 33,
         }

@@ -1,10 +1,13 @@
 // The shelf: files that can be asked for what their object files say.
-ghost use Rattle.std.specs.Prelude.{◌≡◌, List, Some, Decides};
+ghost use Rattle.std.specs.Prelude.{◌≡◌, List, Some, IsTrue, ◌↔◌};
 ghost use Rattle.shelf.specs.Files.{FileModel};
 ghost use Rattle.shelf.specs.Questions.{build_id_byte, build_id_len, debuglink_byte, debuglink_of, kind_of, name_byte, name_len, name_of, opened, section_at, section_of, sections_of, symbol_of, symbols_of, with_name};
 
 use crate::object::{Debuglink, ObjectKind, Section, Symbol};
 
+// A file goes by a number and by no handle that holds the shelf: each question would stand twice, here
+// and on the handle. Names, debuglinks and build ids each have their questions for a length and a byte:
+// one question over a kind of text would be longer to ask.
 /// Files that can be asked for what their object files say. A file goes by the number that opening
 /// it answers. A question about a number that no file has, about a file that is no object file, or
 /// about a place that is out of range is answered by none. Questions alter nothing.
@@ -39,19 +42,13 @@ pub trait Shelf {
 
     /// Whether that symbol has exactly this name.
     fn name_is(&self, file: usize, symbol: usize, name: &[u8]) -> bool
-        ensures value { Decides result (name_of (files self.now) file symbol ≡ Some name.now) }
+        ensures value { IsTrue result ↔ (name_of (files self.now) file symbol ≡ Some name.now) }
     {
-        let Some(len) = self.name_len(file, symbol) else {
-            return false;
-        };
-        if len != name.len() {
+        if self.name_len(file, symbol) != Some(name.len()) {
             return false;
         }
         for (at, byte) in name.iter().enumerate() {
-            let Some(found) = self.name_byte(file, symbol, at) else {
-                return false;
-            };
-            if found != *byte {
+            if self.name_byte(file, symbol, at) != Some(*byte) {
                 return false;
             }
         }
@@ -64,17 +61,12 @@ pub trait Shelf {
         ensures value { result ≡ name_len (files self.now) file symbol }
         ensures after { out.new ≡ with_name (name_of (files self.now) file symbol) out.old }
     {
-        let Some(len) = self.name_len(file, symbol) else {
-            return None;
-        };
+        let len = self.name_len(file, symbol)?;
         if len > out.len() {
             return Some(len);
         }
-        for at in 0..len {
-            let Some(byte) = self.name_byte(file, symbol, at) else {
-                return Some(len);
-            };
-            out[at] = byte;
+        for (at, slot) in out[..len].iter_mut().enumerate() {
+            *slot = self.name_byte(file, symbol, at).unwrap_or(*slot);
         }
         Some(len)
     }
@@ -91,8 +83,8 @@ pub trait Shelf {
     fn section(&self, file: usize, number: u16) -> Option<Section>
         ensures value { result ≡ section_of (files self.now) file number };
 
-    /// What the object file says of the file with its debug symbols.
-    fn debuglink(&self, file: usize) -> Option<Debuglink>
+    /// What the object file says of the file with its debug symbols, with the length of its name.
+    fn debuglink(&self, file: usize) -> Option<Debuglink<usize>>
         ensures value { result ≡ debuglink_of (files self.now) file };
 
     /// The byte at a place of that file's name.

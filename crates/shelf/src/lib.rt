@@ -4,4 +4,5 @@
 pub mod fault;
 pub mod files;
 pub mod object;
+pub mod paths;
 pub mod text;

@@ -1,5 +1,8 @@
 // What a shelf answers of an object file.
+ghost use Rattle.std.specs.Prelude.{◌==◌};
+
 use location::{Address, FileOffset};
+use table::row::Row;
 
 /// What an object file is for.
 #[derive(Clone, Copy)]
@@ -32,13 +35,23 @@ pub struct Section {
     pub offset: Option<FileOffset>,
 }
 
-/// What an object file says of the file that has its debug symbols.
+// A section is found by its number.
+impl Row<u16> for Section {
+    ghost has = { λ section number. (section.number == number) };
+
+    fn is(&self, key: &u16) -> bool {
+        self.number == *key
+    }
+}
+
+/// What an object file says of the file that has its debug symbols. Of its name it holds an `N`: how
+/// long it is, or where it lies.
 #[derive(Clone, Copy)]
-pub enum Debuglink {
+pub enum Debuglink<N> {
     /// Nothing.
     Absent,
     /// Something that cannot be read.
     Malformed,
-    /// Its name, of this many bytes.
-    Named { len: usize },
+    /// Its name.
+    Named(N),
 }

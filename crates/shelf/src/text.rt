@@ -10,18 +10,12 @@ use table::at::row_at;
 pub fn len_of(text: Option<&[u8]>) -> Option<usize>
     ensures value { result ≡ option_map length (option_map (λ x. x.now) text.entry) }
 {
-    match text {
-        Some(text) => Some(text.len()),
-        None => None,
-    }
+    Some(text?.len())
 }
 
 /// The byte at a place of a text, if there is one.
 pub fn byte_of(text: Option<&[u8]>, at: usize) -> Option<u8>
     ensures value { result ≡ ask (option_map (λ x. x.now) text.entry) (λ s. slice_get s at) }
 {
-    match text {
-        Some(text) => row_at(text, at),
-        None => None,
-    }
+    row_at(text?, at)
 }

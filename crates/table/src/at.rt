@@ -6,9 +6,5 @@ ghost use Rattle.std.specs.List.{slice_get};
 pub fn row_at<R: Copy>(rows: &[R], place: usize) -> Option<R>
     ensures value { result ≡ slice_get rows.now place }
 {
-    if place < rows.len() {
-        Some(rows[place])
-    } else {
-        None
-    }
+    rows.get(place).copied()
 }

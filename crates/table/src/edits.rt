@@ -1,17 +1,17 @@
 // Changing a table: a row put at its end, put in the place of another, or taken out.
 ghost use Rattle.std.specs.Prelude.{◌≡◌, ◌<◌, ◌≤◌, [], ◌∷◌, ◌++◌, length, MatchResult, slice_set};
 ghost use Rattle.std.specs.List.{remove, slice_get};
-ghost use Rattle.table.specs.Contents.{rows_of, room};
+ghost use Rattle.table.specs.Contents.{SameMemory, rows_of, room};
 
 use crate::full::TableFull;
 use crate::table::Table;
 
+// Each change says that the memory stays: that is about two states, so no invariant of the type can say it.
 impl<'a, R: Copy> Table<'a, R> {
     /// Puts a row after the others. Refused exactly when the table is full; it is then as it was.
     pub fn put(&mut self, row: R) -> Result<(), TableFull>
         ensures cases { MatchResult result (λ _. (length (rows_of self.old) < room self.old) × (rows_of self.new ≡ rows_of self.old ++ row ∷ [])) (λ full. (length (rows_of self.old) ≡ room self.old) × (full.capacity ≡ room self.old) × (self.new ≡ self.old)) }
-        ensures capacity { room self.new ≡ room self.old }
-        ensures lent { self.new.rows.ghost_name ≡ self.old.rows.ghost_name }
+        ensures memory { SameMemory self.old self.new }
     {
         let capacity = self.rows.len();
         if self.len == capacity {
@@ -28,8 +28,7 @@ impl<'a, R: Copy> Table<'a, R> {
         ensures value { result ≡ slice_get (rows_of self.old) place }
         ensures items { rows_of self.new ≡ slice_set (rows_of self.old) place row }
         ensures same { length (rows_of self.old) ≤ place → self.new ≡ self.old }
-        ensures capacity { room self.new ≡ room self.old }
-        ensures lent { self.new.rows.ghost_name ≡ self.old.rows.ghost_name }
+        ensures memory { SameMemory self.old self.new }
     {
         let old = self.get(place);
         if place < self.len {
@@ -44,8 +43,7 @@ impl<'a, R: Copy> Table<'a, R> {
         ensures value { result ≡ slice_get (rows_of self.old) place }
         ensures items { rows_of self.new ≡ remove (rows_of self.old) place }
         ensures same { length (rows_of self.old) ≤ place → self.new ≡ self.old }
-        ensures capacity { room self.new ≡ room self.old }
-        ensures lent { self.new.rows.ghost_name ≡ self.old.rows.ghost_name }
+        ensures memory { SameMemory self.old self.new }
     {
         let taken = self.get(place);
         if place < self.len {
@@ -58,13 +56,9 @@ impl<'a, R: Copy> Table<'a, R> {
     fn close_up(&mut self, place: usize)
         requires within { place < self.old.len }
         ensures items { rows_of self.new ≡ remove (rows_of self.old) place }
-        ensures capacity { room self.new ≡ room self.old }
-        ensures lent { self.new.rows.ghost_name ≡ self.old.rows.ghost_name }
+        ensures memory { SameMemory self.old self.new }
     {
-        let last = self.len - 1;
-        for i in place..last {
-            self.rows[i] = self.rows[i + 1];
-        }
-        self.len = last;
+        self.rows.copy_within(place + 1..self.len, place);
+        self.len -= 1;
     }
 }

@@ -8,10 +8,5 @@ use crate::row::Row;
 pub fn find<K, R: Row<K>>(rows: &[R], key: &K) -> Option<usize>
     ensures cases { MatchOption result (NoRow (λ x. R.Row.has x key.now) rows.now) (FirstRow (λ x. R.Row.has x key.now) rows.now) }
 {
-    for (i, row) in rows.iter().enumerate() {
-        if row.is(key) {
-            return Some(i);
-        }
-    }
-    None
+    rows.iter().position(|row| row.is(key))
 }

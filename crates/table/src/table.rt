@@ -7,7 +7,7 @@ ghost use Rattle.std.specs.Prelude.{◌≤◌, length};
 pub struct Table<'a, R> {
     // the rows in use, and after them the spare ones
     pub(crate) rows: &'a mut [R],
-    // how many rows are in use
+    // how many rows are in use: a length beside the rows, since the memory is the caller's and no heap is used
     pub(crate) len: usize,
     ghost ok: { len ≤ length rows.now },
 }

@@ -1,8 +1,8 @@
 -- A longer front of a path is read as no fewer pieces. Assumes nothing.
 use Rattle.std.proofs.Common.{◌≡◌, ℕ, ◌≤◌, Bool, true, ◌⊎◌, List, [], ◌∷◌, ◌++◌, length, filter, sym, refl, ap, ◌∙◌, subst, inl, inr, ⊎_elim, arith}
-use Rattle.std.specs.List.{AllByRecursion}
+use Rattle.std.specs.List.{All}
 use Rattle.std.proofs.lemmas.List.{append_assoc, append-nil, length-append}
-use Rattle.std.proofs.ByRecursion.{All-get_or, All-push}
+use Rattle.std.proofs.lemmas.List.Elements.{All-cons, All-nil, All-push}
 use Rattle.std.proofs.lemmas.Bool.{cases_eq, cases_Bool, cond-true, cond-false}
 use Rattle.byte_parts.specs.Places.{Free}
 use Rattle.unix_path.specs.Paths.{slash, some, later, pieces}
@@ -16,11 +16,11 @@ record Parted (xs : List ℕ) : Type 0 where
   front : List ℕ
   rest : List ℕ
   shape : xs ≡ front ++ rest
-  other : AllByRecursion Other rest
+  other : All Other rest
   opens : (front ≡ []) ⊎ ((u : List ℕ) × (front ≡ u ++ (slash ∷ [])))
 
 parted : (xs : List ℕ) → Parted xs
-parted [] = record { front = []; rest = []; shape = refl; other = tt; opens = inl refl }
+parted [] = record { front = []; rest = []; shape = refl; other = All-nil Other; opens = inl refl }
 parted (c ∷ cs) =
     let p = parted cs in
     ⊎_elim
@@ -28,7 +28,7 @@ parted (c ∷ cs) =
     let rest : cs ≡ p.rest = p.shape ∙ ap (λ l. l ++ p.rest) none in
     ⊎_elim
     (λ e. record { front = slash ∷ []; rest = p.rest; shape = ap (λ b. b ∷ cs) e ∙ ap (λ l. slash ∷ l) rest; other = p.other; opens = inr ([], refl) })
-    (λ n. record { front = []; rest = c ∷ p.rest; shape = ap (λ l. c ∷ l) rest; other = (n, p.other); opens = inl refl })
+    (λ n. record { front = []; rest = c ∷ p.rest; shape = ap (λ l. c ∷ l) rest; other = All-cons Other c p.rest n p.other; opens = inl refl })
     (cases_eq c slash))
     (λ u. record { front = c ∷ p.front; rest = p.rest; shape = ap (λ l. c ∷ l) p.shape; other = p.other; opens = inr (c ∷ u.0, ap (λ l. c ∷ l) u.1) })
     p.opens
@@ -50,8 +50,8 @@ kept_more test x y g =
     (λ f. let a = ap length (cond-false (test x) (x ∷ []) [] f) in omega arith)
     (cases_Bool (test x))
 
-free : (xs : List ℕ) → AllByRecursion Other xs → Free slash xs
-free xs all k l = All-get_or Other xs k 0 l all
+free : (xs : List ℕ) → All Other xs → Free slash xs
+free xs all k l = all k 0 l
 
 pieces_push : (xs : List ℕ) (c : ℕ) → length (pieces xs) ≤ length (pieces (xs ++ (c ∷ [])))
 pieces_push xs c =

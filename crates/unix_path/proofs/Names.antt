@@ -1,8 +1,8 @@
 -- The file name of a path is its last piece. Assumes nothing.
 use Rattle.std.proofs.Common.{◌≡◌, ℕ, ◌<◌, true, false, not, List, [], ◌∷◌, ◌++◌, length, get_or, filter, sym, ap, ◌∙◌, subst, ⊎_elim, arith}
-use Rattle.std.specs.List.{ContainsAt as Has, AllByRecursion}
+use Rattle.std.specs.List.{All, Contains}
 use Rattle.std.specs.Str.{bytes_eq}
-use Rattle.std.proofs.ByRecursion.{All-append, all-has, all_kept_by, All-weaker, has_push, kept_by_passes}
+use Rattle.std.proofs.lemmas.List.Elements.{All-append, All-cons, All-contains, All-filter, All-from_recursion, All-head, All-nil, All-same, All-tail, All-weaker, Contains-push, filter_passes}
 use Rattle.std.proofs.lemmas.Slice.Eq.{bytes_eq-Decides}
 use Rattle.std.proofs.lemmas.List.{length_push, same_from_push}
 use Rattle.std.proofs.lemmas.Bool.{cases_Bool, cond-true, and_parts, and_from, ne_eqb, not_from_false}
@@ -13,23 +13,24 @@ use Rattle.unix_path.specs.Paths.{slash, here, some, later, opened, pieces, root
 use Rattle.unix_path.proofs.Readings.{pieces_free, some_long, long_some}
 
 -- no piece has a slash
-pieces_lack : (path : List ℕ) → AllByRecursion (Free slash) (pieces path)
+pieces_lack : (path : List ℕ) → All (Free slash) (pieces path)
 pieces_lack path =
     let first = cut_some slash path in
-    let all : AllByRecursion (Free slash) (first.0 ∷ first.1) = subst (AllByRecursion (Free slash)) first.2 (cut_lacks slash path) in
-    subst (λ l. AllByRecursion (Free slash) (opened l)) (sym first.2)
+    let all : All (Free slash) (first.0 ∷ first.1) = All-same (Free slash) _ _ (sym first.2) (All-from_recursion (Free slash) (cut slash path) (cut_lacks slash path)) in
+    All-same (Free slash) _ _ (ap opened first.2)
     (All-append (Free slash) (filter some (first.0 ∷ [])) (filter later first.1)
-    (all_kept_by some (Free slash) (first.0 ∷ []) (all.0, tt))
-    (all_kept_by later (Free slash) first.1 all.1))
+    (All-filter some (Free slash) (first.0 ∷ []) (All-cons (Free slash) first.0 [] (All-head (Free slash) _ _ all) (All-nil (Free slash))))
+    (All-filter later (Free slash) first.1 (All-tail (Free slash) _ _ all)))
 
 -- and none is empty
-pieces_full : (path : List ℕ) → AllByRecursion (λ p. some p ≡ true) (pieces path)
+pieces_full : (path : List ℕ) → All (λ p. some p ≡ true) (pieces path)
 pieces_full path =
     let first = cut_some slash path in
-    subst (λ l. AllByRecursion (λ p. some p ≡ true) (opened l)) (sym first.2)
-    (All-append (λ p. some p ≡ true) (filter some (first.0 ∷ [])) (filter later first.1)
-    (kept_by_passes some (first.0 ∷ []))
-    (All-weaker (λ p. later p ≡ true) (λ p. some p ≡ true) (λ p h. (and_parts (some p) (not (bytes_eq p here)) h).0) (filter later first.1) (kept_by_passes later first.1)))
+    let full : List ℕ → Type 0 = λ p. some p ≡ true in
+    All-same full _ _ (ap opened first.2)
+    (All-append full (filter some (first.0 ∷ [])) (filter later first.1)
+    (filter_passes some (first.0 ∷ []))
+    (All-weaker (λ p. later p ≡ true) full (λ p h. (and_parts (some p) (not (bytes_eq p here)) h).0) (filter later first.1) (filter_passes later first.1)))
 
 module _ {path name : List ℕ} (h : FileName path name) where
   pub no_name : pieces path ≡ [] → ⊥
@@ -38,8 +39,8 @@ module _ {path name : List ℕ} (h : FileName path name) where
   pub one_name : (ps : List (List ℕ)) (p : List ℕ) → pieces path ≡ ps ++ (p ∷ []) → name ≡ p
   one_name ps p e = (same_from_push h.before ps name p (sym h.last ∙ e)).1
 
-  named : (P : List ℕ → Type 0) → AllByRecursion P (pieces path) → P name
-  named P all = all-has P (pieces path) name all (subst (λ l. Has l name) (sym h.last) (has_push h.before name))
+  named : (P : List ℕ → Type 0) → All P (pieces path) → P name
+  named P all = All-contains P (pieces path) name all (subst (λ l. Contains l name) (sym h.last) (Contains-push h.before name))
 
   -- a file name has no slash, and is not empty
   pub name_free : Free slash name

@@ -9,14 +9,14 @@ use crate::root::is_rooted;
 fn is_open_ended(base: &[u8]) -> bool
     ensures value { result ≡ open_ended base.now }
 {
-    base.is_empty() || base[base.len() - 1] == b'/'
+    base.is_empty() || base.ends_with(b"/")
 }
 
 // What of `base` stands in front of `name`: nothing where `name` starts at the root.
 fn front_of<'a>(base: &'a [u8], name: &[u8]) -> &'a [u8]
     ensures value { result.now ≡ (if rooted name.now then [] else base.now) }
 {
-    if is_rooted(name) { &base[0..0] } else { base }
+    if is_rooted(name) { &[] } else { base }
 }
 
 /// Writes `name` under `base` at the start of `out`, and answers how many bytes it wrote. A `name` at the root stands alone;

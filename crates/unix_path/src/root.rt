@@ -6,5 +6,5 @@ ghost use Rattle.unix_path.specs.Paths.{rooted};
 pub(crate) fn is_rooted(path: &[u8]) -> bool
     ensures value { result ≡ rooted path.now }
 {
-    !path.is_empty() && path[0] == b'/'
+    path.first() == Some(&b'/')
 }

@@ -1,7 +1,8 @@
 // The words of the command line.
+use std::process::ExitCode;
 
-/// What `--help` prints.
-pub const HELP: &str = "uprobes finds the files and offsets that user space probes go to.
+// What `--help` prints.
+const HELP: &str = "uprobes finds the files and offsets that user space probes go to.
 
   uprobes                                  a day on embedded data, step by step
   uprobes target NAME [--pid N | --maps FILE] [--cache FILE]
@@ -29,93 +30,81 @@ file: PATH is a 64-bit little-endian ELF file. It prints a line for each fact:
 A refusal is printed on the standard error with its number, and ends the program with status 1.
 ";
 
-/// Whether one of the words is `--help`.
-pub fn asks_help(words: &[String]) -> bool {
-    for word in words {
-        if let "--help" = word.as_str() {
-            return true;
+/// Whether a command line asks for help: by its command, or by `--help` anywhere.
+pub fn asks_help(command: &str, words: &[String]) -> bool {
+    match command {
+        "help" | "-h" | "--help" => true,
+        _ => words.iter().any(|word| word.as_str() == "--help"),
+    }
+}
+
+/// Prints the help.
+pub fn help(rt: &HostRuntime) -> anyhow::Result<ExitCode> {
+    rt.print(HELP)?;
+    Ok(ExitCode::SUCCESS)
+}
+
+/// Where the maps come from that a bare name is looked up in.
+#[derive(Clone, Copy)]
+pub enum MapsFrom<'a> {
+    /// No maps are looked at.
+    Nowhere,
+    /// The maps of the process with this number.
+    Process(&'a str),
+    /// The maps in this file.
+    File(&'a str),
+}
+
+impl<'a> MapsFrom<'a> {
+    // The maps of a process, or none where a file was named before.
+    fn or_process(self, number: &'a str) -> Option<MapsFrom<'a>> {
+        match self {
+            MapsFrom::Nowhere | MapsFrom::Process(_) => Some(MapsFrom::Process(number)),
+            MapsFrom::File(_) => None,
         }
     }
-    false
+
+    // The maps in a file, or none where a process was named before.
+    fn or_file(self, path: &'a str) -> Option<MapsFrom<'a>> {
+        match self {
+            MapsFrom::Nowhere | MapsFrom::File(_) => Some(MapsFrom::File(path)),
+            MapsFrom::Process(_) => None,
+        }
+    }
 }
 
 /// What a `target` command asks for.
 #[derive(Clone, Copy)]
 pub struct TargetWords<'a> {
     pub name: &'a str,
-    pub pid: Option<&'a str>,
-    pub maps: Option<&'a str>,
+    pub maps: MapsFrom<'a>,
     pub cache: Option<&'a str>,
 }
 
-// What the next word is read as.
-#[derive(Clone, Copy)]
-enum Next {
-    Word,
-    Pid,
-    Maps,
-    Cache,
-}
-
-/// The words of a `target` command, or none where they are not in order.
+/// The words of a `target` command, or none where they are not in order. The word after an option is its value, whatever it is.
 pub fn target_words(words: &[String]) -> Option<TargetWords<'_>> {
     let mut name = None;
-    let mut pid = None;
-    let mut maps = None;
+    let mut maps = MapsFrom::Nowhere;
     let mut cache = None;
-    let mut next = Next::Word;
-    for word in words {
-        let word = word.as_str();
-        match next {
-            Next::Word => {
-                next = option(word);
-                if let Next::Word = next {
-                    if name.is_some() || word.as_bytes().starts_with(b"--") {
-                        return None;
-                    }
-                    name = Some(word);
-                }
-            }
-            Next::Pid => {
-                pid = Some(word);
-                next = Next::Word;
-            }
-            Next::Maps => {
-                maps = Some(word);
-                next = Next::Word;
-            }
-            Next::Cache => {
-                cache = Some(word);
-                next = Next::Word;
-            }
+    let mut words = words.iter();
+    while let Some(word) = words.next() {
+        match word.as_str() {
+            "--pid" => maps = maps.or_process(words.next()?.as_str())?,
+            "--maps" => maps = maps.or_file(words.next()?.as_str())?,
+            "--cache" => cache = Some(words.next()?.as_str()),
+            word if name.is_some() || word.starts_with("--") => return None,
+            word => name = Some(word),
         }
     }
-    let (Next::Word, Some(name)) = (next, name) else {
-        return None;
-    };
-    if pid.is_some() && maps.is_some() {
-        return None;
-    }
     Some(TargetWords {
-        name,
-        pid,
+        name: name?,
         maps,
         cache,
     })
 }
 
-// What follows a word that is an option.
-fn option(word: &str) -> Next {
-    match word {
-        "--pid" => Next::Pid,
-        "--maps" => Next::Maps,
-        "--cache" => Next::Cache,
-        _ => Next::Word,
-    }
-}
-
 /// Says that a command line cannot be read, and where help is.
-pub fn misused(rt: &HostRuntime, what: &str) -> anyhow::Result<bool> {
+pub fn misused(rt: &HostRuntime, what: &str) -> anyhow::Result<ExitCode> {
     eprintln!(rt; "uprobes: cannot read '{what}'; try 'uprobes --help'")?;
-    Ok(false)
+    Ok(ExitCode::FAILURE)
 }

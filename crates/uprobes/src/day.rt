@@ -8,6 +8,7 @@ use proc_map::entry::ProcMapEntry;
 use proc_map::lines::Lines;
 use std::io;
 use std::num::NonZeroU32;
+use std::process::ExitCode;
 
 // The maps of a validation service, process 812.
 const MAPS: &[u8] = b"00400000-00452000 r-xp 00000000 08:02 173521 /usr/sbin/otpd\n\
@@ -30,7 +31,7 @@ const CACHE: &[u8] = b"glibc-ld.so.cache1.1\
       /usr/lib/x86_64-linux-gnu/libc.so.6\0";
 
 /// Prints the day. Every answer is the library's, on the embedded bytes.
-pub fn day(rt: &HostRuntime) -> anyhow::Result<bool> {
+pub fn day(rt: &HostRuntime) -> anyhow::Result<ExitCode> {
     println!(rt; "# the maps of process 812")?;
     maps(rt)?;
     println!(rt; "# the loader's cache")?;
@@ -47,16 +48,12 @@ pub fn day(rt: &HostRuntime) -> anyhow::Result<bool> {
     translate(rt, 0x401136)?;
     println!(rt; "# address 0x400fff in that section")?;
     translate(rt, 0x400fff)?;
-    Ok(true)
+    Ok(ExitCode::SUCCESS)
 }
 
 // The mappings, a line each.
 fn maps(rt: &HostRuntime) -> io::Result<()> {
-    let mut lines = Lines::new(MAPS);
-    for _ in 0..MAPS.len() {
-        let Some(line) = lines.next() else {
-            break;
-        };
+    for line in Lines::new(MAPS) {
         if let Ok(entry) = ProcMapEntry::parse(line) {
             mapping(rt, entry)?;
         }
@@ -80,8 +77,8 @@ fn cache(rt: &HostRuntime) -> io::Result<()> {
     let Ok(cache) = LdSoCache::parse(CACHE) else {
         return Ok(());
     };
-    for index in 0..cache.len() {
-        if let Some(entry) = cache.entry(index + 1) {
+    for number in 1..=cache.len() {
+        if let Some(entry) = cache.entry(number) {
             rt.print("entry ")?;
             rt.write_all(entry.key.bytes)?;
             rt.print(" ")?;
@@ -101,10 +98,7 @@ fn look_up(rt: &HostRuntime, target: &[u8], scope: UProbeScope) -> io::Result<()
 
 // The scope of one process, or of all at 0.
 fn one_process(number: u32) -> UProbeScope {
-    match NonZeroU32::new(number) {
-        Some(number) => UProbeScope::OneProcess(number),
-        None => UProbeScope::AllProcesses,
-    }
+    NonZeroU32::new(number).map_or(UProbeScope::AllProcesses, UProbeScope::OneProcess)
 }
 
 fn translate(rt: &HostRuntime, address: u64) -> io::Result<()> {

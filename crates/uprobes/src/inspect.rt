@@ -8,17 +8,18 @@ use shelf::files::Shelf;
 use shelf::object::{Debuglink, ObjectKind, Section, Symbol};
 use std::alloc::{AllocError, Global};
 use std::io::{BufWriter, Read, Write};
+use std::process::ExitCode;
 use std::{fs, io};
 
 /// `file`: kind, sections, symbols, debuglink and build id of an object file.
-pub fn file(rt: &HostRuntime, words: &[String]) -> anyhow::Result<bool> {
+pub fn file(rt: &HostRuntime, words: &[String]) -> anyhow::Result<ExitCode> {
     let [path] = words else {
         return command::misused(rt, "file");
     };
     let path = path.as_str();
     let Ok(bytes) = path_and_file(rt, path) else {
         eprintln!(rt; "uprobes: cannot read {path}")?;
-        return Ok(false);
+        return Ok(ExitCode::FAILURE);
     };
     let len = path.len().min(bytes.len());
     let mut rows = [ImageRow::new(
@@ -32,7 +33,7 @@ pub fn file(rt: &HostRuntime, words: &[String]) -> anyhow::Result<bool> {
     let mut out = BufWriter::new(rt.alloc(), rt.stdout())?;
     describe(rt.alloc(), &mut out, &shelf, path.as_bytes())?;
     out.flush()?;
-    Ok(true)
+    Ok(ExitCode::SUCCESS)
 }
 
 // A path and, after it, the file that it names.
@@ -72,11 +73,12 @@ fn describe<S: Shelf, W: Write>(
 }
 
 fn show_kind<W: Write>(out: &mut W, kind: ObjectKind) -> io::Result<()> {
-    match kind {
-        ObjectKind::Executable => out.write_all(b"kind executable\n"),
-        ObjectKind::Dynamic => out.write_all(b"kind dynamic\n"),
-        ObjectKind::Other => out.write_all(b"kind other\n"),
-    }
+    let word = match kind {
+        ObjectKind::Executable => "executable",
+        ObjectKind::Dynamic => "dynamic",
+        ObjectKind::Other => "other",
+    };
+    writeln!(out, "kind {word}")
 }
 
 fn show_section<W: Write>(out: &mut W, section: Section) -> io::Result<()> {
@@ -98,19 +100,16 @@ fn show_symbols<S: Shelf, W: Write>(
     shelf: &S,
     file: usize,
 ) -> anyhow::Result<()> {
-    let mut name = vec![in heap; 0u8; 256]?;
+    let mut buffer = vec![in heap; 0u8; 256]?;
     let symbols = shelf.symbol_count(file).unwrap_or(0);
     for place in 0..symbols {
         let Some(symbol) = shelf.symbol(file, place) else {
             continue;
         };
         show_symbol(out, place, symbol)?;
-        let len = read_name(heap, &mut name, shelf, file, place)?;
-        if let Some(len) = len {
+        if let Some(name) = read_name(heap, &mut buffer, shelf, file, place)? {
             out.write_all(b" ")?;
-            if len <= name.len() {
-                out.write_all(&name[0..len])?;
-            }
+            out.write_all(name)?;
         }
         out.write_all(b"\n")?;
     }
@@ -126,27 +125,28 @@ fn show_symbol<W: Write>(out: &mut W, place: usize, symbol: Symbol) -> io::Resul
     }
 }
 
-// The length of a name that is then in the front of the buffer, which grows where the name is longer.
-fn read_name<S: Shelf>(
+// The name of a symbol. It stands in the front of the buffer, which grows where the name is longer.
+fn read_name<'b, S: Shelf>(
     heap: Global,
-    name: &mut Vec<u8>,
+    buffer: &'b mut Vec<u8>,
     shelf: &S,
     file: usize,
     place: usize,
-) -> Result<Option<usize>, AllocError> {
-    let len = shelf.copy_name(file, place, name.as_mut_slice());
+) -> Result<Option<&'b [u8]>, AllocError> {
+    let mut len = shelf.copy_name(file, place, buffer.as_mut_slice());
     if let Some(long) = len {
-        if long > name.len() {
-            *name = vec![in heap; 0u8; long]?;
-            return Ok(shelf.copy_name(file, place, name.as_mut_slice()));
+        if long > buffer.len() {
+            *buffer = vec![in heap; 0u8; long]?;
+            len = shelf.copy_name(file, place, buffer.as_mut_slice());
         }
     }
-    Ok(len)
+    let bytes = buffer.as_slice();
+    Ok(len.map(|len| bytes.get(..len).unwrap_or(b"")))
 }
 
 fn show_debuglink<S: Shelf, W: Write>(out: &mut W, shelf: &S, file: usize) -> io::Result<()> {
     match shelf.debuglink(file) {
-        Some(Debuglink::Named { len }) => {
+        Some(Debuglink::Named(len)) => {
             out.write_all(b"debuglink named ")?;
             for at in 0..len {
                 if let Some(byte) = shelf.debuglink_byte(file, at) {

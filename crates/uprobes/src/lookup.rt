@@ -1,5 +1,6 @@
 // The commands: read the files, ask the library, print its answer.
-use crate::explain::explain;
+use crate::command::MapsFrom;
+use crate::explain::Refusal;
 use crate::{command, show};
 use attach_target::scope::UProbeScope;
 use attach_target::target::resolve_attach_target;
@@ -7,46 +8,37 @@ use byte_parts::number::{Radix, parse_number};
 use location::{Address, FileOffset, from_virtual_address};
 use std::fs;
 use std::num::NonZeroU32;
+use std::process::ExitCode;
 
 // Where the loader keeps its cache.
 const CACHE_FILE: &str = "/etc/ld.so.cache";
 
 /// `target`: the file that a library's name stands for.
-pub fn target(rt: &HostRuntime, words: &[String]) -> anyhow::Result<bool> {
+pub fn target(rt: &HostRuntime, words: &[String]) -> anyhow::Result<ExitCode> {
     let Some(asked) = command::target_words(words) else {
         return command::misused(rt, "target");
     };
-    let mut scope = UProbeScope::AllProcesses;
-    let mut maps = None;
-    if let Some(file) = asked.maps {
-        scope = UProbeScope::CallingProcess;
-        maps = fs::read(rt, file).ok();
-    }
-    if let Some(pid) = asked.pid {
-        let Some(number) = process_number(pid) else {
-            return command::misused(rt, pid);
-        };
-        scope = UProbeScope::OneProcess(number);
-        let pid = number.get();
-        let file = format!(in rt.alloc(); "/proc/{pid}/maps")?;
-        maps = fs::read(rt, file.as_str()).ok();
-    }
+    let (scope, maps) = match asked.maps {
+        MapsFrom::Nowhere => (UProbeScope::AllProcesses, None),
+        MapsFrom::File(path) => (UProbeScope::CallingProcess, fs::read(rt, path).ok()),
+        MapsFrom::Process(word) => {
+            let Some(number) = process_number(word) else {
+                return command::misused(rt, word);
+            };
+            let pid = number.get();
+            let path = format!(in rt.alloc(); "/proc/{pid}/maps")?;
+            let maps = fs::read(rt, path.as_str()).ok();
+            (UProbeScope::OneProcess(number), maps)
+        }
+    };
     let cache = fs::read(rt, asked.cache.unwrap_or(CACHE_FILE)).ok();
     answer(
         rt,
         asked.name.as_bytes(),
         scope,
-        readable(&maps),
-        readable(&cache),
+        maps.as_deref(),
+        cache.as_deref(),
     )
-}
-
-// The bytes of a file, or none where it could not be read.
-fn readable(file: &Option<Vec<u8>>) -> Option<&[u8]> {
-    match file {
-        Some(bytes) => Some(bytes.as_slice()),
-        None => None,
-    }
 }
 
 // What the library says of the target, printed.
@@ -56,15 +48,15 @@ fn answer<'a>(
     scope: UProbeScope,
     maps: Option<&'a [u8]>,
     cache: Option<&'a [u8]>,
-) -> anyhow::Result<bool> {
+) -> anyhow::Result<ExitCode> {
     match resolve_attach_target(name, scope, maps, cache) {
         Ok(found) => {
             show::target(rt, found)?;
-            Ok(true)
+            Ok(ExitCode::SUCCESS)
         }
         Err(fault) => {
             show::target_fault(&rt.stderr(), fault, maps.unwrap_or(b""))?;
-            Ok(false)
+            Ok(ExitCode::FAILURE)
         }
     }
 }
@@ -84,7 +76,7 @@ fn number(word: &str) -> Option<u64> {
 }
 
 /// `offset`: where in the file an address lies.
-pub fn offset(rt: &HostRuntime, words: &[String]) -> anyhow::Result<bool> {
+pub fn offset(rt: &HostRuntime, words: &[String]) -> anyhow::Result<ExitCode> {
     let [address, section, start] = words else {
         return command::misused(rt, "offset");
     };
@@ -99,37 +91,34 @@ pub fn offset(rt: &HostRuntime, words: &[String]) -> anyhow::Result<bool> {
         Ok(found) => {
             let place = found.0;
             println!(rt; "offset {place:#x}")?;
-            Ok(true)
+            Ok(ExitCode::SUCCESS)
         }
         Err(fault) => {
             show::location_fault(&rt.stderr(), fault)?;
-            Ok(false)
+            Ok(ExitCode::FAILURE)
         }
     }
 }
 
 /// `explain`: a refusal in words.
-pub fn explanation(rt: &HostRuntime, words: &[String]) -> anyhow::Result<bool> {
+pub fn explanation(rt: &HostRuntime, words: &[String]) -> anyhow::Result<ExitCode> {
     let [word] = words else {
         return command::misused(rt, "explain");
     };
-    let wanted = match number(word.as_str()) {
-        Some(number) => u32::try_from(number).ok(),
-        None => None,
+    let word = word.as_str();
+    let Some(wanted) = number(word).and_then(|number| u32::try_from(number).ok()) else {
+        return command::misused(rt, word);
     };
-    let Some(wanted) = wanted else {
-        return command::misused(rt, word.as_str());
-    };
-    let Some(words) = explain(wanted) else {
+    let Some(refusal) = Refusal::from_number(wanted) else {
         eprintln!(rt; "uprobes: there is no refusal {wanted}")?;
-        return Ok(false);
+        return Ok(ExitCode::FAILURE);
     };
-    let operation = words.operation;
-    let reason = words.reason;
-    let remedy = words.remedy;
+    let operation = refusal.operation();
+    let reason = refusal.reason();
+    let remedy = refusal.remedy();
     println!(rt; "refusal {wanted}")?;
     println!(rt; "operation {operation}")?;
     println!(rt; "reason {reason}")?;
     println!(rt; "remedy {remedy}")?;
-    Ok(true)
+    Ok(ExitCode::SUCCESS)
 }

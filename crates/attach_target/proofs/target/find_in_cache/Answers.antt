@@ -1,27 +1,19 @@
-use Rattle.std.proofs.Common.{[], sym, subst}
-use Rattle.std.specs.Option.{option_map}
-use Rattle.byte_parts.specs.Refusals.{refuse}
-use Rattle.attach_target.specs.Targets.{in_cache, turned_away, CacheSays, PartOfSome}
-use Rattle.attach_target.proofs.Cached.{cache_hit, cache_part, cache_miss}
+use Rattle.std.proofs.Common.{IfOk, sym, subst}
+use Rattle.std.specs.Option.{ok_or, option_map}
+use Rattle.attach_target.specs.Targets.{cache_found, CacheSays, PartOfSome}
+use Rattle.attach_target.specs.declared.fault.TargetFault.TheVariants.{InvalidTarget}
+use Rattle.attach_target.proofs.Cached.{cache_says}
 use Rattle.attach_target.proofs.target.find_in_cache.Goals as goal
 
-pub returns-in-Some-resolve : goal.returns-in-Some-resolve
-returns-in-Some-resolve c =
-    let checked = c.in_ok-parse.ensures.cases in
-    let hit = c.in-Some-resolve.ensures.cases in
-    let given = sym c.in-Some.is in
-    let target = c.args.target.now in
-    let path = c.in-Some-resolve.path in
-    record {
-      answer = subst (λ o. CacheSays target (option_map (λ x. x.now) o) (in_cache path.place path.bytes.now)) given (cache_hit checked.0 checked.1 checked.2 hit.1 hit.2);
-      part = subst (λ o. PartOfSome (option_map (λ x. x.now) o) path.place path.bytes.now) given (cache_part checked.0 checked.1 checked.2 hit.1 hit.2);
-    }
-
-pub returns-in-None : goal.returns-in-None
-returns-in-None c =
+pub returns : goal.returns
+returns c =
     let checked = c.in_ok-parse.ensures.cases in
     let target = c.args.target.now in
-    record {
-      answer = subst (λ o. CacheSays target (option_map (λ x. x.now) o) (turned_away (refuse 9 []))) (sym c.in-Some.is) (cache_miss checked.0 checked.1 checked.2 target c.in-None.ensures.cases);
-      part = tt;
-    }
+    let given = sym c.in_ok-cache.ensures.ok_part in
+    let found = c.resolve.result in
+    let says = cache_says checked.0 checked.1 checked.2 target found c.resolve.ensures.cases in
+    rw c.ok_or-2.ensures.value
+    (record {
+      answer = subst (λ o. CacheSays target (option_map (λ x. x.now) o) (cache_found (ok_or found InvalidTarget))) given says.0;
+      part = subst (λ o. IfOk (ok_or found InvalidTarget) (λ p. PartOfSome (option_map (λ x. x.now) o) p.place p.bytes.now)) given says.1;
+    })

@@ -1,16 +1,7 @@
-use Rattle.std.proofs.Common.{sym, refl, arith}
+use Rattle.std.proofs.Common.{sym, arith}
 use Rattle.std.proofs.lemmas.Bool.{both_ways, false≢true}
-use Rattle.byte_parts.proofs.StringAnswers.{is_fits, is_ended, is_there, is_free, is_found}
+use Rattle.byte_parts.proofs.StringAnswers.{is_fits, is_ended, is_there, is_none_answers}
 use Rattle.byte_parts.proofs.fields.string_is.Goals as goal
-
-pub returns-then-place-bytes : goal.returns-then-place-bytes
-returns-then-place-bytes c =
-    record {
-      value = (
-        λ e. absurd (false≢true e),
-        λ e. let fits = is_fits c.args.bytes.now c.args.text.now c.args.place e in absurd (omega arith),
-      );
-    }
 
 pub returns-then-len-bytes : goal.returns-then-len-bytes
 returns-then-len-bytes c =
@@ -34,15 +25,6 @@ returns-then-not-stands_at c =
       );
     }
 
-pub returns-in-Some : goal.returns-in-Some
-returns-in-Some c =
-    record { value = (λ e. absurd (false≢true e), λ e. absurd (is_free c.args.bytes.now c.args.text.now c.args.place e _ c.in-Some.ensures.cases)) }
-
-pub returns-in-None : goal.returns-in-None
-returns-in-None c =
-    record {
-      value = (
-        λ _. is_found c.args.bytes.now c.args.text.now c.args.place (omega arith) c.if-bytes-place-ne0.false (sym c.if-not-stands_at.ensures.value) c.in-None.ensures.cases,
-        λ _. refl,
-      );
-    }
+pub returns : goal.returns
+returns c =
+    record { value = is_none_answers c.args.bytes.now c.args.text.now c.args.place _ _ c.is_none.ensures c.find_byte.ensures.cases (omega arith) c.if-bytes-place-ne0.false (sym c.if-not-stands_at.ensures.value) }

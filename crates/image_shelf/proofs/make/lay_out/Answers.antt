@@ -9,19 +9,20 @@ use Rattle.image_shelf.proofs.make.lay_out.Goals as goal
 blank : ImageRow
 blank = record { path = record { place = 0; len = 0 }; image = record { place = 0; len = 0 }; layout = None }
 
-pub loop-i-preserved : goal.loop-i-preserved
+pub loop-row-preserved : goal.loop-row-preserved
 unfolding blank
-loop-i-preserved c =
+loop-row-preserved c =
     let bytes = c.args.bytes.now in
     let xs = c.args.rows.now in
-    let ys = c.loop-i.rows in
-    let i = c.loop-i.i in
+    let ys = c.loop-row.row-items in
+    let i = c.loop-row.row-index in
     let x = get_or ys i blank in
-    laid_more bytes xs ys i x c.read_layout.result c.loop-i-test.true c.loop-i.invariant
+    laid_more bytes xs ys i x c.read_layout-row.result c.loop-row-test.true c.loop-row.invariant
     (get_or_default ys i blank x (omega arith))
-    (c.read_layout.ensures.value
-    ∙ ap (λ p. layout_of p c.part_or_empty-image.result.now) c.elf64_places.ensures.value
-    ∙ ap (layout_of elf64) c.part_or_empty-image.ensures.value)
+    (c.read_layout-row.ensures.value
+    ∙ ap (λ p. layout_of p c.elf64-image.result.bytes.now) c.elf64-image.ensures.places
+    ∙ ap (layout_of elf64) (c.elf64-image.ensures.bytes ∙ c.part_or_empty.ensures.value))
 
 pub returns : goal.returns
-returns c = record { items = laid_all c.args.bytes.now c.args.rows.now c.loop-i.rows c.loop-i.i c.loop-i-test.false c.loop-i.invariant }
+returns c =
+    record { items = laid_all c.args.bytes.now c.args.rows.now c.loop-row.row-items c.loop-row.row-index c.loop-row-test.false c.loop-row.invariant }

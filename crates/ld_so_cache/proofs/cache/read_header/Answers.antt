@@ -1,20 +1,18 @@
-use Rattle.std.proofs.Common.{sym, refl, inl, inr}
+use Rattle.std.proofs.Common.{◌≡◌, ℕ, ◌<◌, ◌≤◌, List, length, take, Some, None, Option, MatchOption, MatchResult, sym, refl, inl, inr}
+use Rattle.std.specs.Option.{ok_or}
+use Rattle.std.proofs.lemmas.Bool.Decides.{Decides-eqb}
 use Rattle.std.proofs.lemmas.Slice.Eq.{slice_eq-Decides}
-use Rattle.std.proofs.lemmas.Bool.Decides.{not_from_Decides, Decides-eqb}
+use Rattle.byte_parts.specs.Fields.{little_endian}
+use Rattle.ld_so_cache.specs.Cache.{Header, count, magic}
+use Rattle.ld_so_cache.specs.Faults.{Refuses}
+use Rattle.ld_so_cache.specs.declared.fault.CacheFault.TheVariants.{Truncated}
 use Rattle.ld_so_cache.proofs.cache.read_header.Goals as goal
 
-pub returns-then-not-starts_with : goal.returns-then-not-starts_with
-returns-then-not-starts_with c =
-    let same = slice_eq-Decides Decides-eqb _ _ _ c.starts_with.ensures.value in
-    record { cases = (c.if-bytes-lt20.false, λ e. not_from_Decides _ same c.if-not-starts_with.true (sym e)) }
+counted : (bytes : List ℕ) (o : Option ℕ) → take 20 bytes ≡ magic → MatchOption o (length bytes < 24) (λ n. (24 ≤ length bytes) × (n ≡ little_endian 4 bytes 20)) → MatchResult (ok_or o (Truncated 0)) (λ n. Header bytes × (n ≡ count bytes)) (Refuses bytes)
+counted bytes (Some n) starts h = (record { starts = starts; counted = h.0 }, h.1)
+counted bytes None starts h = inl (refl, inr (starts, h))
 
-pub returns-in-Some : goal.returns-in-Some
-returns-in-Some c =
+pub returns : goal.returns
+returns c =
     let same = slice_eq-Decides Decides-eqb _ _ _ c.starts_with.ensures.value in
-    let read = c.in-Some.ensures.cases in
-    record { cases = (record { starts = sym (same.0 c.if-not-starts_with.false); counted = read.0 }, read.1) }
-
-pub returns-in-None : goal.returns-in-None
-returns-in-None c =
-    let same = slice_eq-Decides Decides-eqb _ _ _ c.starts_with.ensures.value in
-    record { cases = inl (refl, inr (sym (same.0 c.if-not-starts_with.false), c.in-None.ensures.cases)) }
+    rw c.ok_or.ensures.value (record { cases = counted _ _ (sym (same.0 c.if-not-starts_with.false)) c.read_u32.ensures.cases })

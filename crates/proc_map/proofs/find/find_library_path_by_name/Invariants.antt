@@ -1,4 +1,3 @@
-use Rattle.std.proofs.Common.{length}
 use Rattle.std.specs.List.{AllByRecursion}
 use Rattle.byte_parts.specs.Parts.{PartOf}
 use Rattle.proc_map.specs.Cursor.{lines_left}
@@ -9,8 +8,5 @@ use Rattle.proc_map.proofs.find.find_library_path_by_name.Given as goal
 -- what the lines left answer is what all lines answer, and each of them stands in the maps
 abbrev pub invariant-loop-line : goal.invariant-loop-line
 invariant-loop-line l =
-    ((a : Found) → LooksUp l.target (lines_left l.lines) a → LooksUp l.target (map_lines l.maps) a)
-    × AllByRecursion (λ x. PartOf l.maps x.place x.bytes) (lines_left l.lines)
-
-abbrev pub decreases-loop-line : goal.decreases-loop-line
-decreases-loop-line l = length (lines_left l.lines)
+    ((a : Found) → LooksUp l.target (lines_left l.line-iterator) a → LooksUp l.target (map_lines l.maps) a)
+    × AllByRecursion (λ x. PartOf l.maps x.place x.bytes) (lines_left l.line-iterator)

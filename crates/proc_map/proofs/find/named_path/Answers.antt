@@ -1,9 +1,6 @@
 use Rattle.std.proofs.Common.{◌≡◌, ap, subst}
 use Rattle.std.specs.Option.{option_map}
-use Rattle.std.proofs.lemmas.Bool.{false≢true}
 use Rattle.unix_path.specs.Paths.{FileName}
-use Rattle.unix_path.proofs.Names.{one_file_name}
-use Rattle.library_name.specs.Names.{NamesFile}
 use Rattle.proc_map.proofs.find.named_path.Goals as goal
 
 pub returns-in_err-file : goal.returns-in_err-file
@@ -16,14 +13,3 @@ returns-in_err-file c =
           let same : p ≡ c.in_ok-path.path.now = cc in
           c.in_err-file.ensures.cases n.file (subst (λ l. FileName l n.file) same n.last);
     })
-
-pub returns-else-names_file : goal.returns-else-names_file
-returns-else-names_file c =
-    record {
-      cases = λ p n.
-          let told = ap (option_map (λ x. x.now)) c.in_ok-path.was in
-          let has = n.has in
-          let same : p ≡ c.in_ok-path.path.now = cc in
-          let file = one_file_name (subst (λ l. FileName l n.file) same n.last) c.in_ok-file.ensures.cases in
-          false≢true (c.if-names_file.ensures.value.1 (subst (NamesFile c.args.target.now) file n.names));
-    }

@@ -1,6 +1,5 @@
-use native.Mathlib.Nat.{sub-zero}
 use Rattle.std.proofs.lemmas.List.{take_rest}
-use Rattle.proc_map.proofs.Ranges.{range_made, range_dash, range_starts, range_stops}
+use Rattle.proc_map.proofs.Ranges.{range_dash, range_starts, range_stops}
 use Rattle.proc_map.proofs.words.address_range.Goals as goal
 
 pub returns-in_err-dash : goal.returns-in_err-dash
@@ -9,7 +8,7 @@ returns-in_err-dash c =
 
 pub returns-in_err-start : goal.returns-in_err-start
 returns-in_err-start c =
-    let none = rw sub-zero at c.in_err-start.ensures.cases in
+    let none = c.in_err-start.ensures.cases in
     rw c.from_residual-in_err-start.ensures
     (record { cases = λ low high r. none low (range_starts r _ c.in_ok-dash.ensures.cases) })
 
@@ -18,9 +17,3 @@ returns-in_err-end c =
     let none = rw take_rest at c.in_err-end.ensures.cases in
     rw c.from_residual-in_err-end.ensures
     (record { cases = λ low high r. none high (range_stops r _ c.in_ok-dash.ensures.cases) })
-
-pub returns : goal.returns
-returns c =
-    record {
-      cases = range_made _ _ _ _ c.in_ok-dash.ensures.cases (rw sub-zero at c.in_ok-start.ensures.cases) (rw take_rest at c.in_ok-end.ensures.cases);
-    }

@@ -7,8 +7,8 @@ use Rattle.byte_parts.proofs.Counting.{nth_front, nth_back}
 use Rattle.elf.proofs.Listings.{listed_length}
 use Rattle.image_shelf.proofs.object.ObjectImage.entry.Goals as goal
 
-pub table_entry-requires : goal.table_entry-requires
-table_entry-requires c = (layout_inside elf64 c.args.self.image.now _ c.requires).dynamic
+pub in_table-requires : goal.in_table-requires
+in_table-requires c = (layout_inside elf64 c.args.self.image.now _ c.args.self.laid).dynamic
 
 pub returns-then-at-dynamic : goal.returns-then-at-dynamic
 returns-then-at-dynamic c =
@@ -17,12 +17,11 @@ returns-then-at-dynamic c =
     let long = listed_length elf64 xs layout.dynamic in
     let l = c.if-at-dynamic.true in
     record {
-      value = c.table_entry.ensures.value ∙ sym (nth_front (listed elf64 xs layout.dynamic) (listed elf64 xs layout.plain) c.args.at (omega arith));
-      readable = c.table_entry.ensures.readable;
+      value = c.in_table.ensures.value ∙ sym (nth_front (listed elf64 xs layout.dynamic) (listed elf64 xs layout.plain) c.args.at (omega arith));
     }
 
-pub table_entry-requires-2 : goal.table_entry-requires-2
-table_entry-requires-2 c = (layout_inside elf64 c.args.self.image.now _ c.requires).plain
+pub in_table-requires-2 : goal.in_table-requires-2
+in_table-requires-2 c = (layout_inside elf64 c.args.self.image.now _ c.args.self.laid).plain
 
 pub returns : goal.returns
 returns c =
@@ -32,8 +31,7 @@ returns c =
     let l = c.if-at-dynamic.false in
     record {
       value =
-          c.table_entry-2.ensures.value
+          c.in_table-2.ensures.value
           ∙ ap (λ n. slice_get (listed elf64 xs layout.plain) (c.args.at - n)) (sym long)
           ∙ sym (nth_back (listed elf64 xs layout.dynamic) (listed elf64 xs layout.plain) c.args.at (omega arith));
-      readable = c.table_entry-2.ensures.readable;
     }

@@ -9,7 +9,7 @@ use Rattle.image_shelf.proofs.object.ObjectImage.symbol_count.Goals as goal
 pub overflow_add-result : goal.overflow_add-result
 overflow_add-result c =
     let xs = c.args.self.image.now in
-    let inside = layout_inside elf64 xs _ c.requires in
+    let inside = layout_inside elf64 xs _ c.args.self.laid in
     let dynamic = few_symbols xs c.args.self.layout.dynamic inside.dynamic in
     let plain = few_symbols xs c.args.self.layout.plain inside.plain in
     omega arith

@@ -1,28 +1,32 @@
-use Rattle.std.proofs.Common.{refl, arith}
-use Rattle.std.proofs.lemmas.Result.{err_from_is_err_and}
+use Rattle.std.proofs.Common.{inl, inr, refl, arith}
+use Rattle.std.proofs.lemmas.Grind.{merely}
 use Rattle.ld_so_cache.specs.Cache.{Whole}
-use Rattle.ld_so_cache.proofs.Entries.{numbers_more, refuses_at}
+use Rattle.ld_so_cache.proofs.Entries.{numbers_done, numbers_more}
 use Rattle.ld_so_cache.proofs.cache.LdSoCache.parse.Goals as goal
+use Rattle.ld_so_cache.proofs.cache.LdSoCache.parse.Goals.{else-loop-number-test, then-loop-number-test+in_ok-check_entry+else-number-entries}
 
-pub loop-index-preserved : goal.loop-index-preserved
-loop-index-preserved c =
-    numbers_more (Whole c.args.bytes.now) c.loop-index.index c.loop-index.invariant c.in_ok-check_entry.ensures.cases
+pub loop-number-preserved : goal.loop-number-preserved
+loop-number-preserved c =
+    numbers_more (Whole c.args.bytes.now) c.loop-number.number c.loop-number.invariant c.in_ok-check_entry.ensures.cases
 
-pub returns-in_err-check_entry : goal.returns-in_err-check_entry
-returns-in_err-check_entry c =
-    let p = err_from_is_err_and c.from_residual-in_err-check_entry.result c.from_residual-in_err-check_entry.ensures.1 in
+pub invariant_of-result : goal.invariant_of-result
+invariant_of-result c =
     let read = c.in_ok-entries.ensures.cases in
-    record {
-      cases = rw (p.1, p.2)
-          (refuses_at _ _
-          (record { header = read.0; some = omega arith; within = omega arith; before = λ m some l. c.loop-index.invariant m some (omega arith) })
-          _
-          c.in_err-check_entry.ensures.cases);
-    }
+    let all = numbers_done (Whole c.args.bytes.now) c.loop-number.number c.in_ok-entries.entries c.loop-number.invariant
+    (elim c.loop-number-test.branch [
+      | else-loop-number-test w ↦ inl w.loop-number-test.false
+      | then-loop-number-test+in_ok-check_entry+else-number-entries w ↦ inr (w.in_ok-check_entry.ensures.cases, omega arith)
+    ])
+    in
+    record { good = merely (record { header = read.0; entries = λ n some l. all n some (omega arith) }); counted = read.1 }
 
 pub returns : goal.returns
 returns c =
     let read = c.in_ok-entries.ensures.cases in
-    record {
-      cases = (record { header = read.0; entries = λ n some l. c.loop-index.invariant n some (omega arith) }, refl, read.1);
-    }
+    let all = numbers_done (Whole c.args.bytes.now) c.loop-number.number c.in_ok-entries.entries c.loop-number.invariant
+    (elim c.loop-number-test.branch [
+      | else-loop-number-test w ↦ inl w.loop-number-test.false
+      | then-loop-number-test+in_ok-check_entry+else-number-entries w ↦ inr (w.in_ok-check_entry.ensures.cases, omega arith)
+    ])
+    in
+    record { cases = (record { header = read.0; entries = λ n some l. all n some (omega arith) }, refl, read.1) }

@@ -1,2 +1,0 @@
-pub mod Checking
-pub mod Listing
