@@ -14,7 +14,8 @@ pub enum Width {
     Eight,
 }
 
-// The bytes from `place` on, each 0 past the end.
+// The bytes from `place` on, each 0 past the end. Bytes and a place stay two parameters: each reading
+// takes other bytes.
 fn bytes_at<const N: usize>(bytes: &[u8], place: u8) -> [u8; N]
     ensures each { (k : ℕ) → k < N → slice_index result k ≡ slice_index bytes.now (place + k) }
 {
@@ -38,6 +39,7 @@ pub trait Field {
         ensures value { number result ≡ little_endian size bytes.now place };
 }
 
+// An `impl` for each type: std reads each by a function of its own, and no macro may write an `impl` here.
 impl Field for u16 {
     ghost size = { 2 };
 
@@ -84,6 +86,7 @@ pub fn strings_end(bytes: &[u8]) -> usize
     ensures value { result ≡ strings_end bytes.now }
     ensures ends { StringsEnd bytes.now result }
 {
+    // A `match`: of `map_or` the proof did not close.
     match find_last_byte(bytes, 0) {
         Some(last) => last + 1,
         None => 0,
@@ -108,6 +111,7 @@ pub fn string_at(bytes: &[u8], place: usize) -> Option<&[u8]>
     Some(&from[..len])
 }
 
+// Guards one by one: the proof of all of them joined by `&&` did not close.
 /// Whether the string at `place` is there and is `text`. It looks at the byte after it first, so
 /// that most other strings are told apart by one read.
 pub fn string_is(bytes: &[u8], place: usize, text: &[u8]) -> bool

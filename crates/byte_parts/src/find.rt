@@ -25,8 +25,5 @@ pub fn stands_at(bytes: &[u8], place: usize, text: &[u8]) -> bool
     ensures value { result ≡ stands bytes.now place text.now }
 {
     let len = text.len();
-    match part(bytes, Span { place, len }) {
-        Some(there) => there == text,
-        None => false,
-    }
+    part(bytes, Span { place, len }).is_some_and(|there| there == text)
 }

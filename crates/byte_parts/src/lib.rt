@@ -1,4 +1,4 @@
-// Bytes of texts and tables: where one stands, words, numbers, little-endian fields, zero-terminated strings.
+// Bytes of texts and tables: where one stands, words, numbers, fields, strings, parts and spans; and what every refusal tells.
 #![tactic(auto)]
 
 pub mod fields;

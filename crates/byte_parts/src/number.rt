@@ -18,6 +18,7 @@ pub enum Radix {
 pub fn parse_number(text: &[u8], radix: Radix) -> Option<u64>
     ensures cases { MatchOption result ((n : ℕ) → Writes (base radix) text.now n → ⊥) (Writes (base radix) text.now) }
 {
+    // No `?`: the error is dropped, so `ok()?` is no plainer.
     let Ok(digits) = str::from_utf8(text) else {
         return None;
     };

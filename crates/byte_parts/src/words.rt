@@ -12,7 +12,8 @@ pub struct Word<'a> {
     pub rest: &'a [u8],
 }
 
-// The bound stands in each contract, and in no type: a count is a plain number to its callers.
+// A function for each end, as std has them as two methods. The bound stands in each contract, and in no
+// type: a count is a plain number to its callers.
 /// How many white bytes `text` starts with.
 pub fn leading_white(text: &[u8]) -> usize
     ensures value { result ≡ prefix_len white text.now }

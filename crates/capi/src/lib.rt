@@ -102,6 +102,8 @@ pub extern "C" fn uprobe_target<'a>(
     }
 }
 
+// Numbers for processes, sources and refusals: the C interface.
+
 // All processes at 0, else one.
 fn scope_of(process: u32) -> UProbeScope
     ensures { uses_maps result ≡ not (process == 0) }
@@ -116,7 +118,7 @@ fn scope_of(process: u32) -> UProbeScope
 fn given(readable: u32, bytes: &[u8]) -> Option<&[u8]>
     ensures { option_map (λ x. x.now) result ≡ given_bytes readable bytes.now }
 {
-    if readable == 0 { None } else { Some(bytes) }
+    (readable != 0).then_some(bytes)
 }
 
 // The number of the source.
@@ -135,9 +137,7 @@ fn path_of(found: Target<'_>) -> Part<'_>
     ensures { result ≡ found_part found.entry }
 {
     match found {
-        Target::Given(path) => path,
-        Target::Mapped(path) => path,
-        Target::Cached(path) => path,
+        Target::Given(path) | Target::Mapped(path) | Target::Cached(path) => path,
     }
 }
 

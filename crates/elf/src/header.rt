@@ -27,7 +27,8 @@ pub struct Header {
     pub names: u16,
 }
 
-// What an object file of this type is for.
+// What an object file of this type is for. No `From`: the kind is the shelf's, which knows no numbers of
+// the format.
 fn object_kind(e_type: u16) -> ObjectKind
     ensures value { result ≡ kind_named e_type }
 {

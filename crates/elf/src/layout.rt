@@ -36,7 +36,7 @@ impl<'a> Image<'a> {
         ensures value { option_map (λ x. x.now) result ≡ names_of self.entry.places self.entry.bytes.now header }
     {
         if header.names == 0 {
-            return Some(&self.bytes[0..0]);
+            return Some(&self.bytes[..0]);
         }
         let section = self.section_numbered(header.sections, header.names as u32)?;
         let span = self.section_span(section)?;

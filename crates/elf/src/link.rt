@@ -39,9 +39,8 @@ impl Sections<'_> {
         let Some(section) = found else {
             return Debuglink::Absent;
         };
-        match self.image.link_name(section) {
-            Some(name) => Debuglink::Named(name),
-            None => Debuglink::Malformed,
-        }
+        self.image
+            .link_name(section)
+            .map_or(Debuglink::Malformed, Debuglink::Named)
     }
 }

@@ -36,7 +36,8 @@ pub(crate) fn padded(len: usize) -> usize
     (len + 3) / 4 * 4
 }
 
-// Whether a note of this type, with its name at a place, is a build id.
+// Whether a note of this type, with its name at a place, is a build id. The type stays a number: 3 is
+// the only one that is asked for.
 fn is_id(notes: &[u8], place: usize, name_size: u32, kind: u32) -> bool
     ensures value { result ≡ is_build_id notes.now place name_size kind }
 {
@@ -71,7 +72,8 @@ fn find_id(notes: &[u8]) -> Result<Option<Span>, MalformedNote>
     ensures value { result ≡ notes_in notes.now }
 {
     let mut at = 0;
-    // A loop by place: where the next note starts is known only once this one is read.
+    // A loop by place, and no iterator of notes: where the next one starts is known only once this one is
+    // read, and no other function goes through them.
     while at < notes.len() {
         match read_note(notes, at)? {
             Note::BuildId(span) => return Ok(Some(span)),
@@ -82,7 +84,7 @@ fn find_id(notes: &[u8]) -> Result<Option<Span>, MalformedNote>
 }
 
 impl Image<'_> {
-    // The same for a section with notes, with the place counted in the image.
+    // What `find_id` says of a section with notes, with the place counted in the image.
     fn notes_in_section(self, section: SectionHeader) -> Result<Option<Span>, MalformedNote>
         ensures value { result ≡ notes_at self.entry.bytes.now (occupied self.entry.bytes.now section) }
     {
@@ -101,6 +103,7 @@ impl Sections<'_> {
     pub(crate) fn build_id(self) -> Option<Span>
         ensures value { result ≡ build_id (notes_of self.entry.image.bytes.now (sections self.entry.image.places self.entry.image.bytes.now self.entry.table)) }
     {
+        // A loop, as in `find`: a malformed note ends it too.
         for number in 1..self.table.count {
             let section = self.numbered(number as u32)?;
             if section.kind == SectionKind::Notes {

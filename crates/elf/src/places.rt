@@ -8,7 +8,7 @@ use byte_parts::fields::Width;
 /// ELF specification gives them.
 #[derive(Clone, Copy)]
 pub struct Places {
-    /// The number of the class in the identification.
+    /// The number of the class in the identification: a byte, since all of that is compared at once.
     pub class: u8,
     /// How wide addresses, offsets and sizes are.
     pub word: Width,

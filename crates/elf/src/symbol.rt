@@ -25,11 +25,7 @@ pub struct SymbolTable {
 fn section_named(number: u16) -> Option<u16>
     ensures value { result ≡ section_named number }
 {
-    if number == 0 || number >= 0xff00 {
-        None
-    } else {
-        Some(number)
-    }
+    (number != 0 && number < 0xff00).then_some(number)
 }
 
 /// What an entry of a symbol table says, but for the name. Bytes that it lacks count as 0.

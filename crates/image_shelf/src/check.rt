@@ -5,7 +5,7 @@ ghost use Rattle.image_shelf.specs.Images.{first_outside, outside};
 
 use crate::rows::ImageRow;
 use byte_parts::span::is_inside;
-use shelf::fault::ShelfFault;
+use shelf::fault::{ShelfFault, refuse_outside};
 
 // Whether a row reaches out of what is this long.
 fn is_outside(row: &ImageRow, length: usize) -> bool
@@ -27,8 +27,5 @@ fn find_outside(rows: &[ImageRow], length: usize) -> Option<usize>
 pub fn check(bytes: &[u8], rows: &[ImageRow]) -> Result<(), ShelfFault>
     ensures value { result ≡ verdict (first_outside bytes.now rows.now) }
 {
-    match find_outside(rows, bytes.len()) {
-        Some(place) => Err(ShelfFault::RowOutside { place }),
-        None => Ok(()),
-    }
+    refuse_outside(find_outside(rows, bytes.len()))
 }

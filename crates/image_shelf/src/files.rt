@@ -17,7 +17,7 @@ impl<'a> ImageShelf<'a> {
     fn used(&self) -> &'a [ImageRow]
         ensures value { result.now ≡ shelf_rows self.now }
     {
-        &self.rows[0..self.files]
+        &self.rows[..self.files]
     }
 
     // The number of the first file with this path.

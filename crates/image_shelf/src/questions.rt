@@ -7,6 +7,7 @@ use shelf::files::Shelf;
 use shelf::object::{Debuglink, ObjectKind, Section, Symbol};
 use shelf::text::{byte_of, len_of};
 
+// The one-line questions for lengths and bytes stand in both shelves: a trait for them would be longer.
 /// The files that the rows list, each with what its image says.
 impl<'a> Shelf for ImageShelf<'a> {
     ghost files = { shelf_files };

@@ -13,11 +13,7 @@ use shelf::object::Section;
 fn section_from(number: u16, header: SectionHeader) -> Section
     ensures value { result ≡ section_model number header }
 {
-    let offset = if header.kind == SectionKind::NoBits {
-        None
-    } else {
-        Some(FileOffset(header.offset))
-    };
+    let offset = (header.kind != SectionKind::NoBits).then_some(FileOffset(header.offset));
     Section {
         number,
         address: Address(header.address),

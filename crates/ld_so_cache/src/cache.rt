@@ -128,7 +128,7 @@ impl<'a> LdSoCache<'a> {
         })
     }
 
-    // The value of entry `number`, if the entry is whole and its key stands for the target.
+    // The value of entry `number`, if its key stands for the target.
     fn value_for(&self, number: u32, target: &[u8]) -> Option<Part<'a>>
         ensures cases { MatchOption result ((k v : List ℕ) → Entry self.now.bytes.now number k v → NamesKey target.now k → ⊥) (λ p. ((k : List ℕ) × Entry self.now.bytes.now number k p.bytes.now × NamesKey target.now k × (p.place ≡ value_place self.now.bytes.now number))) }
     {
@@ -149,7 +149,7 @@ impl<'a> LdSoCache<'a> {
     pub fn resolve(&self, target: &[u8]) -> Option<Part<'a>>
         ensures cases { MatchOption result (FindsNone self.now.bytes.now self.now.entries target.now) (λ p. ((n : ℕ) × Finds self.now.bytes.now self.now.entries target.now n p.bytes.now × (p.place ≡ value_place self.now.bytes.now n))) }
     {
-        // A loop: std has no lemma on what a chain over `a..=b` gives.
+        // A loop: the chain over `1..=n` was tried, and no lemma says what it gives.
         for number in 1..=self.len() {
             if let Some(value) = self.value_for(number, target) {
                 return Some(value);

@@ -5,7 +5,9 @@ ghost use Rattle.listed_shelf.specs.Outside.{file_outside, first_outside, symbol
 
 use crate::extent::{Extent, file_outside, symbol_outside};
 use crate::rows::{FileRow, Listing, SymbolRow};
-use shelf::fault::ShelfFault;
+use shelf::fault::{ShelfFault, refuse_outside};
+
+// A function for each chain: the proof of both in one function did not close.
 
 // The first file row that reaches out of the extent.
 fn outside_file(rows: &[FileRow], extent: Extent) -> Option<usize>
@@ -45,8 +47,5 @@ fn find_outside(rows: Listing<'_>) -> Option<usize>
 pub fn check(rows: Listing<'_>) -> Result<(), ShelfFault>
     ensures value { result ≡ verdict (first_outside rows.entry) }
 {
-    match find_outside(rows) {
-        Some(place) => Err(ShelfFault::RowOutside { place }),
-        None => Ok(()),
-    }
+    refuse_outside(find_outside(rows))
 }

@@ -18,13 +18,10 @@ pub(crate) struct Extent {
 pub(crate) fn file_outside(row: &FileRow, extent: Extent) -> bool
     ensures value { result ≡ file_outside extent row.now }
 {
-    if !is_inside(row.path, extent.text) {
-        return true;
-    }
-    match row.object {
-        Some(object) => !object_inside(object, extent),
-        None => false,
-    }
+    !is_inside(row.path, extent.text)
+        || row
+            .object
+            .is_some_and(|object| !object_inside(object, extent))
 }
 
 // Whether a symbol row reaches out of the extent.

@@ -14,6 +14,7 @@ pub struct Address(pub u64);
 #[derive(Clone, Copy)]
 pub struct FileOffset(pub u64);
 
+// The three numbers stand in both cases: a struct of them would be one more thing to take apart.
 /// Why an address has no file offset.
 #[derive(Clone, Copy)]
 pub enum LocationFault {

@@ -54,6 +54,7 @@ fn optional(rt: &HostRuntime, bytes: Option<&[u8]>) -> io::Result<()> {
 }
 
 fn joined(rt: &HostRuntime, base: &[u8], name: &[u8]) -> io::Result<()> {
+    // A buffer of a fixed size, as the cases have it: `join` writes into its caller's memory.
     let mut out = [0u8; 512];
     let len = join(base, name, &mut out);
     optional(rt, len.and_then(|len| out.get(..len)))
@@ -96,6 +97,7 @@ fn checked(rt: &HostRuntime, bytes: &[u8]) -> io::Result<()> {
         Ok(cache) => {
             let entries = cache.len();
             print!(rt; "entries {entries}")?;
+            // By numbers, as a cache is asked.
             for number in 1..=entries {
                 if let Some(entry) = cache.entry(number) {
                     rt.print(" ")?;

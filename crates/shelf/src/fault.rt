@@ -1,5 +1,6 @@
 // Why a shelf cannot be made of its rows.
-ghost use Rattle.shelf.specs.Faults.{shelf_refusal};
+ghost use Rattle.std.specs.Prelude.{◌≡◌};
+ghost use Rattle.shelf.specs.Faults.{shelf_refusal, verdict};
 
 use byte_parts::refusal::Fault;
 
@@ -18,5 +19,15 @@ impl Fault for ShelfFault {
         match self {
             ShelfFault::RowOutside { .. } => 33,
         }
+    }
+}
+
+/// Refuses with 33 the row that points outside, if there is one.
+pub fn refuse_outside(row: Option<usize>) -> Result<(), ShelfFault>
+    ensures value { result ≡ verdict row }
+{
+    match row {
+        Some(place) => Err(ShelfFault::RowOutside { place }),
+        None => Ok(()),
     }
 }

@@ -44,6 +44,7 @@ impl Row<u16> for Section {
     }
 }
 
+// No `Result` of an `Option`: all three cases are answers, and code goes by their names.
 /// What an object file says of the file that has its debug symbols. Of its name it holds an `N`: how
 /// long it is, or where it lies.
 #[derive(Clone, Copy)]

@@ -53,6 +53,6 @@ impl<'a, R: Copy> Table<'a, R> {
     fn used(&self) -> &[R]
         ensures value { result.now ≡ rows_of self.now }
     {
-        &self.rows[0..self.len]
+        &self.rows[..self.len]
     }
 }

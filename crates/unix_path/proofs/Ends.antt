@@ -83,10 +83,10 @@ module _ (path : List ℕ) (end : ℕ) (fits : end ≤ length path) (all : piece
       }
 
   -- where no slash is left, the front is one piece
-  pub piece_first : 0 < end → Free slash (between 0 end path) → LastPiece path 0 end
+  pub piece_first : 0 < end → Free slash (take end path) → LastPiece path 0 end
   piece_first l free =
       let long = ap length (between_is path 0 end) ∙ length-take-le end path fits in
-      piece_found some 0 l reading_nil free (some_long (between 0 end path) (omega arith))
+      piece_found some 0 l reading_nil (subst (Free slash) (sym (between_is path 0 end)) free) (some_long (between 0 end path) (omega arith))
 
   module _ (i : ℕ) (at : Last slash (take end path) i) where
     place_within : i < end

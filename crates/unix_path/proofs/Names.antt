@@ -1,10 +1,10 @@
 -- The file name of a path is its last piece. Assumes nothing.
-use Rattle.std.proofs.Common.{◌≡◌, ℕ, ◌<◌, true, false, not, List, [], ◌∷◌, ◌++◌, length, get_or, filter, sym, ap, ◌∙◌, subst, ⊎_elim, arith}
+use Rattle.std.proofs.Common.{◌≡◌, ℕ, ◌<◌, true, false, not, List, [], ◌∷◌, ◌++◌, length, get_or, filter, sym, ap, ◌∙◌, subst, ⊎_elim}
 use Rattle.std.specs.List.{All, Contains}
 use Rattle.std.specs.Str.{bytes_eq}
 use Rattle.std.proofs.lemmas.List.Elements.{All-append, All-cons, All-contains, All-filter, All-from_recursion, All-head, All-nil, All-same, All-tail, All-weaker, Contains-push, filter_passes}
 use Rattle.std.proofs.lemmas.Slice.Eq.{bytes_eq-Decides}
-use Rattle.std.proofs.lemmas.List.{length_push, same_from_push}
+use Rattle.std.proofs.lemmas.List.{same_from_push}
 use Rattle.std.proofs.lemmas.Bool.{cases_Bool, cond-true, and_parts, and_from, ne_eqb, not_from_false}
 use Rattle.byte_parts.specs.Cut.{cut}
 use Rattle.byte_parts.specs.Places.{Free}
@@ -33,9 +33,6 @@ pieces_full path =
     (All-weaker (λ p. later p ≡ true) full (λ p h. (and_parts (some p) (not (bytes_eq p here)) h).0) (filter later first.1) (filter_passes later first.1)))
 
 module _ {path name : List ℕ} (h : FileName path name) where
-  pub no_name : pieces path ≡ [] → ⊥
-  no_name none = let size = length_push h.before name in omega (arith, ap length (sym none ∙ h.last))
-
   pub one_name : (ps : List (List ℕ)) (p : List ℕ) → pieces path ≡ ps ++ (p ∷ []) → name ≡ p
   one_name ps p e = (same_from_push h.before ps name p (sym h.last ∙ e)).1
 

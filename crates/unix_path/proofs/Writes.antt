@@ -1,6 +1,5 @@
 -- The bytes of a joined path, as they are written one part after another. Assumes nothing.
 use Rattle.std.proofs.Common.{◌≡◌, ℕ, ◌+◌, ◌-◌, ◌<◌, ◌≤◌, true, false, cond, not, List, [], ◌∷◌, ◌++◌, length, drop, set, sym, refl, ap, ◌∙◌, ⊎_elim, add-zero, arith}
-use native.Mathlib.Nat.{sub-zero}
 use borrow.Rule.Slice.PartMut.{put_mid}
 use mir.Val.{bool_byte}
 use Rattle.std.proofs.lemmas.List.{append_assoc, append-nil, length-append, drop_at, drop-drop, drop_more, set_at, take_at}
@@ -46,11 +45,11 @@ module _ (front : List ℕ) (k : ℕ) (e : k ≡ bool_byte (not (open_ended fron
       ap length (joined_parts base name front f) ∙ length-append (front ++ gap front) name ∙ ap (λ n. n + length name) start_is
 
   -- the front is written first
-  front_written : (out copied : List ℕ) → copied ≡ front → copied ++ drop (length front - 0) out ≡ front ++ drop (length front) out
-  front_written out copied same = rw sub-zero (ap (λ z. z ++ drop (length front) out) same)
+  front_written : (out copied : List ℕ) → copied ≡ front → copied ++ drop (length front) out ≡ front ++ drop (length front) out
+  front_written out copied same = ap (λ z. z ++ drop (length front) out) same
 
   -- then the slash, where it is wanted
-  pub slash_written : (out copied : List ℕ) → copied ≡ front → length front < length out → length front < length front + k → set (copied ++ drop (length front - 0) out) (length front) slash ≡ (front ++ gap front) ++ drop (length front + k) out
+  pub slash_written : (out copied : List ℕ) → copied ≡ front → length front < length out → length front < length front + k → set (copied ++ drop (length front) out) (length front) slash ≡ (front ++ gap front) ++ drop (length front + k) out
   slash_written out copied same l wanted =
       ap (λ z. set z (length front) slash) (front_written out copied same)
       ∙ ⊎_elim
@@ -65,7 +64,7 @@ module _ (front : List ℕ) (k : ℕ) (e : k ≡ bool_byte (not (open_ended fron
       ∙ ap (λ n. (front ++ gap front) ++ drop (length front + n) out) (sym one))
       (cases_Bool (open_ended front))
 
-  pub slash_left : (out copied : List ℕ) → copied ≡ front → length front + k ≤ length front → copied ++ drop (length front - 0) out ≡ (front ++ gap front) ++ drop (length front + k) out
+  pub slash_left : (out copied : List ℕ) → copied ≡ front → length front + k ≤ length front → copied ++ drop (length front) out ≡ (front ++ gap front) ++ drop (length front + k) out
   slash_left out copied same unwanted =
       front_written out copied same
       ∙ ⊎_elim

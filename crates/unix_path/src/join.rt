@@ -19,6 +19,7 @@ fn front_of<'a>(base: &'a [u8], name: &[u8]) -> &'a [u8]
     if is_rooted(name) { &[] } else { base }
 }
 
+// A buffer and a length: no library uses the heap.
 /// Writes `name` under `base` at the start of `out`, and answers how many bytes it wrote. A `name` at the root stands alone;
 /// any other follows `base`, and a slash between them unless `base` is empty or ends with one.
 /// None where `out` is too short, and then it stays as it was.
@@ -32,7 +33,7 @@ pub fn join(base: &[u8], name: &[u8], out: &mut [u8]) -> Option<usize>
         return None;
     }
     let end = start + name.len();
-    out[0..front.len()].copy_from_slice(front);
+    out[..front.len()].copy_from_slice(front);
     if front.len() < start {
         out[front.len()] = b'/';
     }

@@ -23,9 +23,9 @@ pub fn parent(path: &[u8]) -> Option<&[u8]>
     ensures reopens { IfSome result (λ p. (name : List ℕ) → FileName path.now name → Alike (joined_path p.now name) path.now) }
 {
     let start = last_piece(path)?.start;
-    let len = match last_piece(&path[0..start]) {
+    let len = match last_piece(&path[..start]) {
         Some(before) => before.end,
         None => usize::from(is_rooted(path)),
     };
-    Some(&path[0..len])
+    Some(&path[..len])
 }

@@ -19,7 +19,7 @@ pub(crate) fn last_piece(path: &[u8]) -> Option<Range<usize>>
 {
     let mut end = path.len();
     // A loop over places: `rsplit` gives the pieces without the places that a parent is cut at.
-    while let Some(slash) = find_last_byte(&path[0..end], b'/') {
+    while let Some(slash) = find_last_byte(&path[..end], b'/') {
         if is_kept(&path[slash + 1..end]) {
             return Some(slash + 1..end);
         }

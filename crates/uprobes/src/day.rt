@@ -7,7 +7,6 @@ use location::{Address, FileOffset, from_virtual_address};
 use proc_map::entry::ProcMapEntry;
 use proc_map::lines::Lines;
 use std::io;
-use std::num::NonZeroU32;
 use std::process::ExitCode;
 
 // The maps of a validation service, process 812.
@@ -37,13 +36,13 @@ pub fn day(rt: &HostRuntime) -> anyhow::Result<ExitCode> {
     println!(rt; "# the loader's cache")?;
     cache(rt)?;
     println!(rt; "# target libotp.so in process 812")?;
-    look_up(rt, b"libotp.so", one_process(812))?;
+    look_up(rt, b"libotp.so", UProbeScope::CallingProcess)?;
     println!(rt; "# target libotp.so.4 for all processes")?;
     look_up(rt, b"libotp.so.4", UProbeScope::AllProcesses)?;
     println!(rt; "# target /opt/otp/libotp.so.4")?;
-    look_up(rt, b"/opt/otp/libotp.so.4", one_process(812))?;
+    look_up(rt, b"/opt/otp/libotp.so.4", UProbeScope::CallingProcess)?;
     println!(rt; "# target libhotp.so in process 812")?;
-    look_up(rt, b"libhotp.so", one_process(812))?;
+    look_up(rt, b"libhotp.so", UProbeScope::CallingProcess)?;
     println!(rt; "# address 0x401136 in a section 0x401000 at 0x1000")?;
     translate(rt, 0x401136)?;
     println!(rt; "# address 0x400fff in that section")?;
@@ -77,6 +76,7 @@ fn cache(rt: &HostRuntime) -> io::Result<()> {
     let Ok(cache) = LdSoCache::parse(CACHE) else {
         return Ok(());
     };
+    // By numbers, as a cache is asked.
     for number in 1..=cache.len() {
         if let Some(entry) = cache.entry(number) {
             rt.print("entry ")?;
@@ -94,11 +94,6 @@ fn look_up(rt: &HostRuntime, target: &[u8], scope: UProbeScope) -> io::Result<()
         Ok(found) => show::target(rt, found),
         Err(fault) => show::target_fault(rt, fault, MAPS),
     }
-}
-
-// The scope of one process, or of all at 0.
-fn one_process(number: u32) -> UProbeScope {
-    NonZeroU32::new(number).map_or(UProbeScope::AllProcesses, UProbeScope::OneProcess)
 }
 
 fn translate(rt: &HostRuntime, address: u64) -> io::Result<()> {

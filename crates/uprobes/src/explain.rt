@@ -1,10 +1,11 @@
 // Each refusal: its number, and in words what was done, why it was refused and what to do about it.
-ghost use Rattle.std.specs.Prelude.{◌≡◌, IfSome};
+ghost use Rattle.std.specs.Prelude.{◌≡◌, ◌≢◌, MatchOption, ◌==◌, find};
 ghost use Rattle.attach_target.specs.Faults.{target_refusal};
 ghost use Rattle.ld_so_cache.specs.Faults.{cache_refusal};
 ghost use Rattle.location.specs.Translation.{location_refusal};
 ghost use Rattle.proc_map.specs.Faults.{line_refusal};
-ghost use Rattle.uprobes.specs.Refusals.{number_of};
+ghost use Rattle.uprobes.specs.Refusals.{every, number_of};
+ghost use Rattle.uprobes.specs.declared.explain.Refusal.{Refusal as ARefusal};
 
 use attach_target::fault::TargetFault;
 use ld_so_cache::fault::CacheFault;
@@ -50,14 +51,22 @@ const ALL: [Refusal; 10] = [
     Refusal::RowOutside,
 ];
 
+// The first of all refusals with this number.
+fn numbered(number: u32) -> Option<Refusal>
+    ensures { result ≡ find (λ r. (number_of r == number)) every }
+{
+    ALL.iter()
+        .copied()
+        .find(|refusal| refusal.number() == number)
+}
+
 impl Refusal {
+    // No `TryFrom`: that there is no such number is all that its error would say.
     /// The refusal with this number, or none where there is no such number.
     pub fn from_number(number: u32) -> Option<Refusal>
-        ensures { IfSome result (λ r. number_of r ≡ number) }
+        ensures cases { MatchOption result ((r : ARefusal) → number_of r ≢ number) (λ r. number_of r ≡ number) }
     {
-        ALL.iter()
-            .copied()
-            .find(|refusal| refusal.number() == number)
+        numbered(number)
     }
 
     /// The number of the refusal.

@@ -1,6 +1,6 @@
 // The command `file`: what a shelf sees in an object file.
 use crate::command;
-use anyhow::anyhow;
+use anyhow::Context;
 use byte_parts::span::Span;
 use image_shelf::images::ImageShelf;
 use image_shelf::rows::ImageRow;
@@ -52,14 +52,13 @@ fn describe<S: Shelf, W: Write>(
     shelf: &S,
     path: &[u8],
 ) -> anyhow::Result<()> {
-    let Some(file) = shelf.open(path) else {
-        return Err(anyhow!("the file is not on the shelf"));
-    };
+    let file = shelf.open(path).context("the file is not on the shelf")?;
     let Some(kind) = shelf.kind(file) else {
         out.write_all(b"no object\n")?;
         return Ok(());
     };
     show_kind(out, kind)?;
+    // Sections, symbols and bytes by their numbers, as a shelf is asked.
     let sections = shelf.section_count(file).unwrap_or(0);
     for place in 0..sections {
         if let Some(section) = shelf.section_at(file, place) {
@@ -100,6 +99,7 @@ fn show_symbols<S: Shelf, W: Write>(
     shelf: &S,
     file: usize,
 ) -> anyhow::Result<()> {
+    // A buffer, since a shelf writes names into its caller's memory.
     let mut buffer = vec![in heap; 0u8; 256]?;
     let symbols = shelf.symbol_count(file).unwrap_or(0);
     for place in 0..symbols {

@@ -15,7 +15,8 @@ fn main(rt: HostRuntime) -> anyhow::Result<ExitCode> {
     run(&rt)
 }
 
-// A refusal is printed, and ends with status 1.
+// A refusal is printed, and ends with status 1. The handle goes to each function beside what it works on:
+// the language has no other way to print.
 fn run(rt: &HostRuntime) -> anyhow::Result<ExitCode> {
     let mut words: Vec<String> = Vec::new(rt.alloc());
     for word in env::args(rt)? {

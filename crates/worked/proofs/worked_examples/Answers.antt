@@ -1,6 +1,5 @@
-use Rattle.std.proofs.Common.{refl}
 use Rattle.worked.proofs.Holding.{worked_examples_lem}
 use Rattle.worked.proofs.worked_examples.Goals as goal
 
-pub returns : goal.returns
-returns c = record { count = refl; examples = worked_examples_lem }
+pub returns-clause-examples : goal.returns-clause-examples
+returns-clause-examples c = worked_examples_lem

@@ -1,23 +1,12 @@
-use Rattle.std.proofs.Common.{◌≡◌, ◌+◌, ◌<◌, not, ◌++◌, length, drop, sym, refl, ap, ◌∙◌, arith}
+use Rattle.std.proofs.Common.{◌≡◌, ◌+◌, not, ◌++◌, length, drop, sym, refl, ap, ◌∙◌, arith}
 use mir.Val.{bool_byte}
-use Rattle.unix_path.specs.Paths.{joined_path}
 use Rattle.unix_path.proofs.Joints.{joined_opens}
 use Rattle.unix_path.proofs.Writes.{gap, joined_size, slash_written, slash_left, name_written}
 use Rattle.unix_path.proofs.join.join.Goals as goal
 use Rattle.unix_path.proofs.join.join.Goals.{then-out-start-via-then-out-start, then-out-start-via-else-out-start+then-out-start-2, then-front-start, else-front-start}
 
-pub returns-then-out-start : goal.returns-then-out-start
-returns-then-out-start c =
-    let base = c.args.base.now in
-    let name = c.args.name.now in
-    let gap_len = c.from.ensures ∙ ap (λ b. bool_byte (not b)) c.is_open_ended.ensures.value in
-    let size = joined_size c.front_of-front.result.now c.from.result gap_len base name c.front_of-front.ensures.value in
-    let short : length c.args.out.now < length (joined_path base name) =
-    elim c.then-out-start.branch [
-      | then-out-start-via-then-out-start w ↦ let l = w.if-out-start.true in omega arith
-      | then-out-start-via-else-out-start+then-out-start-2 w ↦ let l = w.if-out-start-2.true in omega arith
-    ] in
-    record { cases = (short, refl); opens = joined_opens base name }
+pub returns-then-out-start-clause-opens : goal.returns-then-out-start-clause-opens
+returns-then-out-start-clause-opens c = joined_opens c.args.base.now c.args.name.now
 
 pub returns : goal.returns
 returns c =

@@ -1,5 +1,4 @@
 use Rattle.std.proofs.Common.{take, sym, ap, ◌∙◌, subst}
-use native.Mathlib.Nat.{sub-zero}
 use mir.Val.{bool_byte}
 use Rattle.unix_path.specs.Paths.{Parent}
 use Rattle.unix_path.proofs.Parents.{parent_before, parent_root, reopened}
@@ -14,8 +13,8 @@ returns c =
     let found : Parent path (take len path) =
     elim c.match-last_piece.branch [
       | in-Some w ↦
-          subst (λ n. Parent path (take n path)) (sym w.len-is) (parent_before last (rw sub-zero at w.in-Some.ensures.cases))
+          subst (λ n. Parent path (take n path)) (sym w.len-is) (parent_before last w.in-Some.ensures.cases)
       | in-None w ↦
-          parent_root last len (w.len-is ∙ w.from-len.ensures ∙ ap bool_byte w.is_rooted.ensures.value) (rw sub-zero at w.in-None.ensures.cases)
+          parent_root last len (w.len-is ∙ w.from-len.ensures ∙ ap bool_byte w.is_rooted.ensures.value) w.in-None.ensures.cases
     ] in
-    rw sub-zero (record { cases = found; reopens = λ name h. reopened found h })
+    record { cases = found; reopens = λ name h. reopened found h }

@@ -1,25 +1,18 @@
-use Rattle.std.proofs.Common.{length, take, sym, ap, ◌∙◌, arith, rules}
-use native.Mathlib.Nat.{sub-zero}
-use Rattle.std.proofs.lemmas.List.{take_all}
+use Rattle.std.proofs.Common.{take, sym, ap, ◌∙◌, arith, rules}
 use Rattle.unix_path.specs.Paths.{pieces}
 use Rattle.unix_path.proofs.Ends.{piece_first, piece_behind, piece_skipped}
 use Rattle.unix_path.proofs.Readings.{pieces_nil}
 use Rattle.unix_path.proofs.piece.last_piece.Goals as goal
 
-pub loop-slash-init : goal.loop-slash-init
-loop-slash-init c =
-    let path = c.args.path.now in
-    (omega arith, ap pieces (take_all (length path) path (omega arith)))
-
 pub returns-then-is_kept : goal.returns-then-is_kept
 returns-then-is_kept c =
     let inv = c.loop-slash.invariant in
-    record { cases = piece_behind _ _ inv.0 inv.1 _ (rw sub-zero at c.in-Some.ensures.cases) (sym c.if-is_kept.ensures.value) }
+    record { cases = piece_behind _ _ inv.0 inv.1 _ c.in-Some.ensures.cases (sym c.if-is_kept.ensures.value) }
 
 pub loop-slash-preserved : goal.loop-slash-preserved
 loop-slash-preserved c =
     let inv = c.loop-slash.invariant in
-    let at = rw sub-zero at c.in-Some.ensures.cases in
+    let at = c.in-Some.ensures.cases in
     (search rules, piece_skipped _ _ inv.0 inv.1 _ at (sym c.if-is_kept.ensures.value))
 
 pub returns-then-end-eq0 : goal.returns-then-end-eq0
