@@ -39,7 +39,7 @@ pub fn asks_help(command: &str, words: &[String]) -> bool {
 }
 
 /// Prints the help.
-pub fn help(rt: &HostRuntime) -> anyhow::Result<ExitCode> {
+pub(crate) fn help(rt: &HostRuntime) -> anyhow::Result<ExitCode> {
     rt.print(HELP)?;
     Ok(ExitCode::SUCCESS)
 }

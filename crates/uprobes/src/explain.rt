@@ -88,7 +88,7 @@ impl Refusal {
     }
 
     /// What was done.
-    pub fn operation(self) -> &'static str {
+    pub(crate) fn operation(self) -> &'static str {
         match self {
             Refusal::AddressNotInSection | Refusal::FileOffsetOverflow => "address to offset",
             Refusal::MapsLine => "maps line",
@@ -99,7 +99,7 @@ impl Refusal {
     }
 
     /// Why it was refused.
-    pub fn reason(self) -> &'static str {
+    pub(crate) fn reason(self) -> &'static str {
         match self {
             Refusal::AddressNotInSection => "the address is below the section's address",
             Refusal::FileOffsetOverflow => "the file offset would pass 2^64 - 1",
@@ -116,7 +116,7 @@ impl Refusal {
     }
 
     /// What to do about it.
-    pub fn remedy(self) -> &'static str {
+    pub(crate) fn remedy(self) -> &'static str {
         match self {
             Refusal::AddressNotInSection => "take the section that holds the address",
             Refusal::FileOffsetOverflow =>
