@@ -132,7 +132,7 @@ fn source_of(found: &Target<'_>) -> u32
     }
 }
 
-// The path that was found.
+// The path that was found. The programs take the cases apart too, but for more than the path.
 fn path_of(found: Target<'_>) -> Part<'_>
     ensures { result ≡ found_part found.entry }
 {

@@ -7,7 +7,7 @@ use Rattle.elf.specs.declared.kind.SectionKind.TheVariants.{PlainSymbols, Notes,
 abbrev pub kind_of : ℕ → SectionKind
 kind_of n = cond (n == 2) PlainSymbols (cond (n == 7) Notes (cond (n == 8) NoBits (cond (n == 11) DynamicSymbols (Other n))))
 
--- the kinds are one, and where they are others so are their numbers
+-- what the derived `==` answers: the kinds are one, and where they are others so are their numbers
 abbrev pub same_kind : SectionKind → SectionKind → Bool
 same_kind PlainSymbols PlainSymbols = true
 same_kind Notes Notes = true

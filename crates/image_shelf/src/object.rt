@@ -77,7 +77,7 @@ impl<'a> ObjectImage<'a> {
         }
     }
 
-    // The name in the debuglink.
+    // The name in the debuglink. All three cases are written out: one question on the enum would hide two.
     pub(crate) fn link(self) -> Option<&'a [u8]>
         ensures value { option_map (λ x. x.now) result ≡ link_name (object_model self.entry).debuglink }
     {

@@ -47,6 +47,7 @@ impl<'a> ListedShelf<'a> {
     pub(crate) fn link(&self, file: usize) -> Option<&[u8]>
         ensures value { option_map (λ x. x.now) result ≡ ask (object_of (shelf_files self.now) file) (λ o. link_name o.debuglink) }
     {
+        // All three cases are written out: one question on the enum would hide two of them.
         match self.object_row(file)?.debuglink {
             Debuglink::Named(name) => Some(part_or_empty(self.rows.text, name)),
             Debuglink::Absent | Debuglink::Malformed => None,

@@ -10,6 +10,7 @@ use crate::words::{address_range, five_words, path_part};
 use byte_parts::number::{Radix, parse_number};
 use byte_parts::part::Part;
 
+// Start and end of the addresses are fields by name, and no range: each is asked for alone.
 /// One mapping of a process: what a line of its maps says.
 #[derive(Clone, Copy)]
 pub struct ProcMapEntry<'a> {

@@ -3,6 +3,7 @@ ghost use Rattle.proc_map.specs.Faults.{line_refusal};
 
 use byte_parts::refusal::Fault;
 
+// A place and a length by name, and no `Span`: they are the values that the refusal tells.
 /// Why a line of maps cannot be read.
 #[derive(Clone, Copy)]
 pub enum LineFault {
