@@ -16,8 +16,7 @@ pub struct Span {
 pub fn part<T>(items: &[T], span: Span) -> Option<&[T]>
     ensures value { option_map (λ x. x.now) result ≡ span_of items.now span }
 {
-    let end = span.place.checked_add(span.len)?;
-    items.get(span.place..end)
+    items.get(span.place..)?.get(..span.len)
 }
 
 /// The elements of the span, or no element where it is not wholly inside.

@@ -66,7 +66,10 @@ pub trait Shelf {
             return Some(len);
         }
         for (at, slot) in out[..len].iter_mut().enumerate() {
-            *slot = self.name_byte(file, symbol, at).unwrap_or(*slot);
+            let Some(byte) = self.name_byte(file, symbol, at) else {
+                return Some(len);
+            };
+            *slot = byte;
         }
         Some(len)
     }

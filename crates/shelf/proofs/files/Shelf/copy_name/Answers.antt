@@ -1,4 +1,4 @@
-use Rattle.std.proofs.Common.{length, set, take, sym, ap, ◌∙◌, arith}
+use Rattle.std.proofs.Common.{length, take, sym, ap, ◌∙◌, arith}
 use Rattle.std.specs.List.{slice_get}
 use Rattle.std.proofs.lemmas.List.{length-take-le}
 use Rattle.shelf.specs.Questions.{ask}
@@ -13,9 +13,8 @@ loop-at-preserved g c = λ name is.
     let room = c.if-len-out.false in
     let front = length-take-le c.in_ok-len.len c.args.out.now room in
     let l = c.loop-at-test.true in
-    ap (set c.loop-at.slot-items c.loop-at.at) c.unwrap_or.ensures
-    ∙ copy_more name (take c.in_ok-len.len c.args.out.now) c.loop-at.slot-items c.loop-at.at c.name_byte.result _ (omega arith) l
-    (c.name_byte.ensures.value ∙ ap (λ o. ask o (λ s. slice_get s c.loop-at.at)) is)
+    copy_more name (take c.in_ok-len.len c.args.out.now) c.loop-at.slot-items c.loop-at.at _ 0 (omega arith) l
+    (c.in-Some.ensures.value ∙ ap (λ o. ask o (λ s. slice_get s c.loop-at.at)) is)
     (c.loop-at.invariant name is)
 
 pub returns-clause-after : goal.returns-clause-after
