@@ -7,6 +7,7 @@ use location::{Address, FileOffset, from_virtual_address};
 use proc_map::entry::ProcMapEntry;
 use proc_map::lines::Lines;
 use std::io;
+use std::num::NonZeroU32;
 use std::process::ExitCode;
 
 // The maps of a validation service, process 812.
@@ -31,18 +32,19 @@ const CACHE: &[u8] = b"glibc-ld.so.cache1.1\
 
 /// Prints the day. Every answer is the library's, on the embedded bytes.
 pub fn day(rt: &HostRuntime) -> anyhow::Result<ExitCode> {
+    let process = NonZeroU32::new(812).map_or(UProbeScope::AllProcesses, UProbeScope::OneProcess);
     println!(rt; "# the maps of process 812")?;
     maps(rt)?;
     println!(rt; "# the loader's cache")?;
     cache(rt)?;
     println!(rt; "# target libotp.so in process 812")?;
-    look_up(rt, b"libotp.so", UProbeScope::CallingProcess)?;
+    look_up(rt, b"libotp.so", process)?;
     println!(rt; "# target libotp.so.4 for all processes")?;
     look_up(rt, b"libotp.so.4", UProbeScope::AllProcesses)?;
     println!(rt; "# target /opt/otp/libotp.so.4")?;
-    look_up(rt, b"/opt/otp/libotp.so.4", UProbeScope::CallingProcess)?;
+    look_up(rt, b"/opt/otp/libotp.so.4", process)?;
     println!(rt; "# target libhotp.so in process 812")?;
-    look_up(rt, b"libhotp.so", UProbeScope::CallingProcess)?;
+    look_up(rt, b"libhotp.so", process)?;
     println!(rt; "# address 0x401136 in a section 0x401000 at 0x1000")?;
     translate(rt, 0x401136)?;
     println!(rt; "# address 0x400fff in that section")?;
