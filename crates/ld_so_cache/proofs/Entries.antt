@@ -3,7 +3,10 @@ use Rattle.std.proofs.Common.{◌≡◌, ℕ, ◌+◌, ◌<◌, ◌≤◌, ◌�
 use Rattle.std.proofs.lemmas.Bool.{cases_lt}
 use Rattle.std.proofs.lemmas.Grind.{not_there}
 use Rattle.byte_parts.specs.Fields.{StringAt}
-use Rattle.ld_so_cache.specs.Cache.{count, Entry, Whole, Good, FieldsRead}
+use Rattle.ld_so_cache.specs.Cache.{count, Entry, Whole, Good, FieldsRead, Room}
+use Rattle.ld_so_cache.specs.Faults.{Reaches, EntryFault, Refuses}
+use Rattle.ld_so_cache.specs.declared.fault.CacheFault.{CacheFault}
+use Rattle.ld_so_cache.specs.declared.fault.CacheFault.TheVariants.{Truncated, InvalidHeader, InvalidString}
 use Rattle.byte_parts.proofs.Strings.{string_once}
 
 module _ {bytes : List ℕ} {n flag key_from value_from : ℕ} (f : FieldsRead bytes n flag key_from value_from) where
@@ -46,3 +49,11 @@ numbers_more P i all this m some l =
 pub numbers_done : (P : ℕ → Type 0) (i total : ℕ) → ((m : ℕ) → 0 < m → m < i → P m) → (total < i) ⊎ (P i × (total ≤ i)) → (m : ℕ) → 0 < m → m ≤ total → P m
 numbers_done P i total all (inl past) m some l = all m some (omega arith)
 numbers_done P i total all (inr last) m some l = numbers_more P i all last.0 m some (omega arith)
+
+-- a fault of the entry that is reached is one of the cache
+pub refuses_at : (bytes : List ℕ) (n : ℕ) → Reaches bytes n → (fault : CacheFault) → EntryFault bytes n fault → Refuses bytes fault
+refuses_at bytes n r (Truncated entry) h =
+    inr (subst (Reaches bytes) (sym h.0) r, λ room. h.1 (subst (Room bytes) h.0 room))
+refuses_at bytes n r InvalidHeader h = absurd h
+refuses_at bytes n r (InvalidString entry) h =
+    (subst (Reaches bytes) (sym h.0) r, subst (Room bytes) (sym h.0) h.1, λ w. h.2 (subst (Whole bytes) h.0 w))

@@ -27,3 +27,12 @@ mapped_some f (Some x) y e = (x, refl, cc)
 -- two answers that are there are the same
 pub some_same : {X : Type 0} (x y : X) → Some x ≡ Some y → x ≡ y
 some_same x y e = cc
+
+-- asking a part of an answer
+pub ask_mapped : {X Y Z : Type 0} (m : Option X) (f : X → Y) (g : Y → Option Z) → ask (option_map f m) g ≡ ask m (λ x. g (f x))
+ask_mapped None f g = refl
+ask_mapped (Some x) f g = refl
+
+pub mapped_mapped : {X Y Z : Type 0} (m : Option X) (f : X → Y) (g : Y → Z) → option_map g (option_map f m) ≡ option_map (λ x. g (f x)) m
+mapped_mapped None f g = refl
+mapped_mapped (Some x) f g = refl

@@ -1,24 +1,23 @@
 -- A name that is written into the front of a buffer, byte by byte. Assumes nothing.
 use Rattle.std.proofs.Common.{◌≡◌, ℕ, ◌+◌, ◌-◌, ◌<◌, ◌≤◌, leb, List, [], ◌∷◌, ◌++◌, length, get_or, take, drop, set, Some, Option, sym, ap, ◌∙◌, arith}
-use Rattle.std.specs.Option.{unwrap_or}
 use Rattle.std.specs.List.{slice_get}
 use Rattle.std.proofs.lemmas.List.{append-nil, append_assoc, drop_all, drop_more, length-take-le, set-append_right, take_all, take_more}
 use Rattle.std.proofs.lemmas.Option.{slice_get-get_or}
 use Rattle.std.proofs.lemmas.Bool.{cond-true, le-leb}
 use Rattle.shelf.specs.Questions.{with_name}
 
--- one more byte, that a question answers
-pub copy_more : (name start out : List ℕ) (at : ℕ) (answer : Option ℕ) (old : ℕ) → at < length name → at < length start → answer ≡ slice_get name at → out ≡ take at name ++ drop at start → set out at (unwrap_or answer old) ≡ take (at + 1) name ++ drop (at + 1) start
-copy_more name start out at answer old l room asked inv =
-    let byte : unwrap_or answer old ≡ get_or name at 0 = ap (λ o. unwrap_or o old) (asked ∙ slice_get-get_or name at 0 l) in
+-- one more byte
+pub copy_more : (name start out : List ℕ) (at b : ℕ) → at < length name → at < length start → Some b ≡ slice_get name at → out ≡ take at name ++ drop at start → set out at b ≡ take (at + 1) name ++ drop (at + 1) start
+copy_more name start out at b l room there inv =
+    let byte = slice_get-get_or name at 0 l in
+    let same : get_or name at 0 ≡ b = cc in
     let none : at - at ≡ 0 = omega arith in
     let long = length-take-le at name (omega arith) in
-    ap (set out at) byte
-    ∙ ap (λ o. set o at (get_or name at 0)) inv
-    ∙ set-append_right (take at name) (drop at start) at at (get_or name at 0) long (omega arith)
-    ∙ ap (λ n. take at name ++ set (drop at start) n (get_or name at 0)) none
-    ∙ ap (λ l. take at name ++ set l 0 (get_or name at 0)) (drop_more start at 0 room)
-    ∙ sym (ap (λ l. l ++ drop (at + 1) start) (take_more name at 0 l) ∙ append_assoc (take at name) (get_or name at 0 ∷ []) (drop (at + 1) start))
+    ap (λ o. set o at b) inv
+    ∙ set-append_right (take at name) (drop at start) at at b long (omega arith)
+    ∙ ap (λ n. take at name ++ set (drop at start) n b) none
+    ∙ ap (λ l. take at name ++ set l 0 b) (drop_more start at 0 room)
+    ∙ sym (ap (λ l. l ++ drop (at + 1) start) (take_more name at 0 l) ∙ append_assoc (take at name) (get_or name at 0 ∷ []) (drop (at + 1) start) ∙ ap (λ x. take at name ++ (x ∷ drop (at + 1) start)) same)
 
 module _ (o : Option (List ℕ)) (name start : List ℕ) (is : o ≡ Some name) where
   -- a name that fits stands in the front of the buffer

@@ -13,7 +13,7 @@ loop-at-preserved g c = λ name is.
     let room = c.if-len-out.false in
     let front = length-take-le c.in_ok-len.len c.args.out.now room in
     let l = c.loop-at-test.true in
-    copy_more name (take c.in_ok-len.len c.args.out.now) c.loop-at.slot-items c.loop-at.at _ 0 (omega arith) l
+    copy_more name (take c.in_ok-len.len c.args.out.now) c.loop-at.slot-items c.loop-at.at _ (omega arith) l
     (c.in-Some.ensures.value ∙ ap (λ o. ask o (λ s. slice_get s c.loop-at.at)) is)
     (c.loop-at.invariant name is)
 
